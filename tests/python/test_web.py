@@ -167,6 +167,7 @@ WRONG: dict[str, tuple[str, Any]] = {
     "no base64": ("/api/read", {"content": "%%%"}), "content that is a list": ("/api/read", {"content": []}),
     "another delimiter": ("/api/read", {"rows": [], "options": {"delimiter": "|"}}),
     "machines that are a text": ("/api/read", {"rows": [], "options": {"machines": "saw"}}),
+    "a place of a text that isn't one": ("/api/read", {"rows": [], "options": {"texts": [[1, True]]}}),
     "no shop": ("/api/plan", {}), "a shop that is a list": ("/api/plan", {**PLAN, "shop": []}),
     "times that are texts": ("/api/plan", {**PLAN, "shop": {**SHOP, "times": [["1", 2, 3]] * 4}}),
     "times that are broken": ("/api/plan", {**PLAN, "shop": {**SHOP, "times": [[1.5, 2, 3]] * 4}}),
@@ -257,7 +258,8 @@ def leaves(value: Any, path: tuple[Any, ...] = ()) -> Iterator[tuple[Any, ...]]:
 VALUES: list[Any] = [None, True, -1, 0, 2**70, 1e400, 0.5, "", "\ud800", "a" * 300, [], [[]], {}, [None],
                      {"a": 1}]
 REQUESTS: list[tuple[str, dict[str, Any]]] = [
-    ("/api/read", {"rows": [[1, ["job", "saw"]], [2, ["a", "1"]]], "options": {**OPTIONS, "decimals": 1}}),
+    ("/api/read", {"rows": [[1, ["job", "saw"]], [2, ["a", "1"]]], "options": {**OPTIONS, "decimals": 1,
+                                                                               "texts": [[2, 2]]}}),
     ("/api/read", {"content": content(TABLE), "name": "x", "options": {"sheet": None}}), ("/api/plan", PLAN),
     ("/api/file", {**PLAN, "kind": "csv"}), ("/api/search", {**PLAN, "seconds": 0, "seed": 1}),
     ("/api/rest", {**PLAN, "at": "2026-12-01T10:00", "down": {"saw": "2026-12-01T12:00"}})]
@@ -324,6 +326,17 @@ def test_a_sheet_is_chosen_and_decimals_are_rounded(client: FlaskClient) -> None
     got = read(client, book, sheet="KW 49", decimals=2)
     assert got["shop"]["times"] == [[83]] and "rounded to 2 decimals" in got["rounded"]
     assert read(client, book, sheet="KW 50")["sheet"] == "KW 48"
+
+
+def test_texts_of_a_workbook_need_a_decimal_sign(client: FlaskClient) -> None:
+    """Also when its rows come back with the places of its texts. Its numbers have a point."""
+    got = read(client, workbook({"table": [["job", "saw", "drill"], ["1.250", 1.125, 2.5], ["b", "1.500", 750]]}))
+    assert [(each["line"], each["column"]) for each in got["faults"]] == [(3, 2)] and got["texts"] == [[2, 1], [3, 2]]
+    for decimal, text in ((None, None), (".", 1_500), (",", 1_500_000)):
+        options = {"delimiter": got["delimiter"], "texts": got["texts"], "decimal": decimal}
+        again = answer(client, "/api/read", {"rows": got["rows"], "options": options})
+        assert again["faults"] == (got["faults"] if decimal is None else [])
+        assert again.get("shop", {}).get("times") == (text and [[1_125, 2_500], [text, 750_000]])
 
 
 BROKEN = {

@@ -26,7 +26,7 @@ pytestmark = [pytest.mark.seconds(40), pytest.mark.xdist_group("page")]
 SCRIPT = "<img src=x onerror=\"document.title='run'\">"
 # Times that no order of a second makes optimal, and faults as planners make them.
 MONDAY = [["Plan KW 49"], ["Auftrag", "Menge", "S\u00e4ge [min]", "Bohren [min]", "Lack [min]"],
-          ["A-1", 4, 30, 25, 40], ["A-2", 1, 20, "n/a", 15], ["A-3", 2, 40, 10, None], ["A-4", 3, 10, 10, 60],
+          ["A-1", 4, 30, 25, 40], ["A-2", 1, 20, "n/a", 15], ["A-3", 2, 40, 10, None], ["A-4", 3, "1.500", 10, 60],
           [SCRIPT, 1, 25, 35, 20], ["A-6", 2, 15, 45, 30], ["Summe", None, 140, 125, 165]]
 
 
@@ -143,6 +143,8 @@ def test_a_week(page: Page) -> None:
     assert "S\u00e4ge" in page.text("#suggest") and "Menge" not in page.text("#suggest")
     page.shot("faults")
     page.click("#suggest")
+    page.wait(lambda: len(page.all("#faults li")) == 4)
+    page.write(page.key("6,3"), "10")
     page.wait(lambda: len(page.all("#faults li")) == 3)
     page.all("#faults button")[0].click()
     assert page.browser.switch_to.active_element.get_attribute("data-key") == "4,4"

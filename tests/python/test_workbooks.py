@@ -192,10 +192,10 @@ def test_the_rows_of_a_sheet(tmp_path: pathlib.Path, monkeypatch: pytest.MonkeyP
     book = _workbooks.Workbook(book_of(tmp_path / "a.xlsx", ("job",)).read_bytes(), "a.xlsx")
     rows = [("a", 1.5, None, 2), (None,) * 4, (None, "1.000.5 ", 3.0, None), ("1,2", "x")]
     sheet = mock.Mock(iter_rows=lambda values_only: rows)
-    text = book.text_of_rows(sheet, 2, ",", {1, 2, 3, 4}, {1, 4, 5})
-    assert (text, book.texts, book.hidden) == ('sep=,\na,"1,5",,2\r\n\r\n,1.000.5 ,3\r\n', {(3, 2)}, [2, 2])
+    text = book.text_of_rows(sheet, 2, {1, 2, 3, 4}, {1, 4, 5})
+    assert (text, book.texts, book.hidden) == ("sep=,\na,1.5,,2\r\n\r\n,1.000.5 ,3\r\n", {(3, 2)}, [2, 2])
     with pytest.raises(ValueError, match="^it has too many cells$"):
-        book.text_of_rows(sheet, 2, ",", {1, 2, 3, 4}, {1, 4, 5})
+        book.text_of_rows(sheet, 2, {1, 2, 3, 4}, {1, 4, 5})
     monkeypatch.setattr(_workbooks, "check_parts", mock.Mock(side_effect=MemoryError))
     with pytest.raises(MemoryError):
         pfs.read_csv(tmp_path / "a.xlsx")

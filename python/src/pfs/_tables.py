@@ -109,12 +109,12 @@ class Cell(NamedTuple):
 class Rows:
     """A table: its rows that aren't empty, without titles and without empty columns, and its faults so far."""
 
-    def __init__(self, path: str, text: str, texts: set[tuple[int, int]], is_chosen: bool,
+    def __init__(self, path: str, text: str, texts: set[tuple[int, int]] | None, is_chosen: bool,
                  faults: list[TableFault]) -> None:
         self.path = path
         self.text = text
         self.delimiter = delimiter_of(text)
-        # The cells of a workbook that are texts, and look like numbers with a separator.
+        # The cells of a workbook that are texts, and look like numbers with a separator; None in another table.
         self.texts = texts
         # Whether the machines were named.
         self.is_chosen = is_chosen
@@ -255,16 +255,17 @@ def table_of(source: str | os.PathLike[str], unit: str, decimal: str | None = No
 
 
 def table_in(content: bytes, path: str, unit: str, decimal: str | None, allow_totals: bool,
-             machines: Iterable[str] | None, sheet: str | None, most_decimals: int | None) -> Table:
-    """Read a table from the content of a file."""
+             machines: Iterable[str] | None, sheet: str | None, most_decimals: int | None,
+             texts: set[tuple[int, int]] | None = None) -> Table:
+    """Read a table from the content of a file, or from a sheet of a workbook as CSV with the places of its texts."""
     most_decimals = None if most_decimals is None else checked_int(most_decimals, "decimals", 0, 9)
     if decimal not in (None, ".", ","):
         raise ValueError(f"decimal must be '.' or ',', not {decimal!r}")
     faults: list[TableFault] = []
     if content.startswith(ARCHIVE):
-        text, note, texts = sheet_of(content, path, sheet, decimal or ".")
+        text, note, texts = sheet_of(content, path, sheet)
     else:
-        text, note, texts = text_of(content, path, faults), "", set()
+        text, note = text_of(content, path, faults), ""
     if sheet is not None and not content.startswith(ARCHIVE):
         raise ValueError(f"{path} isn't a workbook (.xlsx), and has no sheet {sheet!r}")
     names = list(machines or ())
@@ -285,7 +286,7 @@ def table_in(content: bytes, path: str, unit: str, decimal: str | None, allow_to
     return Table(shop, table.delimiter, content.startswith(MARKS), note, sign.rounded())
 
 
-def sheet_of(content: bytes, path: str, sheet: str | None, sign: str) -> tuple[str, str, set[tuple[int, int]]]:
+def sheet_of(content: bytes, path: str, sheet: str | None) -> tuple[str, str, set[tuple[int, int]]]:
     """Return a sheet of a workbook as CSV, of whose rows one more than a table may have is read, and which of its texts
     look like numbers. By default it is the one with which the workbook opens, and the second text says so if there are
     others. It also says if rows or columns are hidden."""
@@ -293,7 +294,7 @@ def sheet_of(content: bytes, path: str, sheet: str | None, sign: str) -> tuple[s
     own = book.first if sheet is None else sheet
     if own not in book.names:
         raise ValueError(f"{path} has no sheet {own!r}, but {', '.join(map(repr, book.names))}")
-    text = book.csv_of(own, MOST_ROWS + 2, sign)
+    text = book.csv_of(own, MOST_ROWS + 2)
     others = [repr(name) for name in book.names if name != own and name.casefold() != OPTIONS_SHEET]
     note = f"the sheet {own!r} is read, and not {', '.join(others)} (`sheet`)" if others and sheet is None else ""
     hidden = " and ".join(counted(number, f"hidden {what}") for number, what in zip(book.hidden, ("row", "column"))
@@ -617,18 +618,21 @@ class DecimalSign:
 
     def billionths_of(self, cell: Cell) -> int:
         """Return a time in billionths, at most the greatest int64."""
-        text = self.without_groups(cell.text) if self.given else cell.text
+        texts = self.table.texts
+        # A number of a workbook has a point.
+        given, sign = (self.given, self.sign) if texts is None or cell[:2] in texts else (".", ".")
+        text = self.without_groups(cell.text, given) if given else cell.text
         match = NUMBER.match(text)
         if not text:
             raise self.table.fault(cell, MISSING)
-        if (self.sign is None or not self.given and cell[:2] in self.table.texts) and GROUPED.match(text):
+        if (sign is None or texts is not None and not given) and GROUPED.match(text):
             digits = re.sub("[.,]", "", text)
             raise self.table.fault(cell, f"{text!r} may be {digits}, or have decimals: leave out thousands separators, "
                                          "or say which decimal sign the table has (`decimal`)")
-        if match and match[2] not in (None, self.sign) and self.first:
+        if match and match[2] not in (None, sign) and self.first:
             raise self.table.fault(cell, f"{cell.text!r} has another decimal sign than {self.first.text!r} in "
                                          f"{self.first.name}")
-        if match is None or match[2] not in (None, self.sign):
+        if match is None or match[2] not in (None, sign):
             raise self.table.fault(cell, f"{cell.text!r} isn't a time{self.hint_for(cell.text)}")
         whole, part = match[1], (match[3] or "").rstrip("0")
         if self.most is not None and len(part) > self.most:
@@ -660,16 +664,16 @@ class DecimalSign:
     def hint_for(self, text: str) -> str:
         """What to write instead of what isn't a time."""
         if match := NUMBER.match(text):
-            is_text = match[2] and self.table.text.startswith("sep=,\n")
+            is_text = match[2] and self.table.texts is not None
             return ": it is text that looks like a number: format the cell as a number, and write it again" if is_text \
                 else ""
         hint = next((hint for wrong, hint in HINTS if wrong.fullmatch(text)), "")
         return f": {SKIPS if hint == NO_MACHINE and self.table.is_chosen else hint}" if hint else ""
 
-    def without_groups(self, text: str) -> str:
+    def without_groups(self, text: str, given: str) -> str:
         """Return a number without its thousands separators."""
-        other = "," if self.given == "." else "."
-        grouped = rf"(?!0)[0-9]{{1,3}}(?:\{other}[0-9]{{3}})+(?:\{self.given}[0-9]+)?\Z"
+        other = "," if given == "." else "."
+        grouped = rf"(?!0)[0-9]{{1,3}}(?:\{other}[0-9]{{3}})+(?:\{given}[0-9]+)?\Z"
         return text.replace(other, "") if re.match(grouped, text) else text
 
 

@@ -73,14 +73,14 @@ class Workbook:
             raise TableFault(self.path, 1, 0, f"isn't a workbook that openpyxl reads ({shown(str(error))}): save it as "
                                               ".xlsx or as CSV UTF-8") from None
 
-    def csv_of(self, name: str, most_rows: int = MOST_ROWS, sign: str = ".") -> str:
-        """Return a sheet as CSV with commas, and numbers with this decimal sign. Of the rows that aren't empty, the
-        first ones are read. A formula without a stored value is a fault."""
+    def csv_of(self, name: str, most_rows: int = MOST_ROWS) -> str:
+        """Return a sheet as CSV with commas. Of the rows that aren't empty, the first ones are read. A formula without
+        a stored value is a fault."""
         with self.faults():
             sheet = self.book[name]
             content = self.book._archive.read(sheet._worksheet_path)
             empty = [*formulas_without_values(content)]
-            text = self.text_of_rows(sheet, most_rows, sign, *hidden_in(content))
+            text = self.text_of_rows(sheet, most_rows, *hidden_in(content))
         if empty:
             path = f"{self.path}, sheet {name}" if len(self.names) > 1 else self.path
             line, column = self.openpyxl.utils.cell.coordinate_to_tuple(empty[0])
@@ -89,7 +89,7 @@ class Workbook:
                                                  "spreadsheet and save it")
         return text
 
-    def text_of_rows(self, sheet: Any, most_rows: int, sign: str, rows_hidden: Collection[int],
+    def text_of_rows(self, sheet: Any, most_rows: int, rows_hidden: Collection[int],
                      columns_hidden: Collection[int]) -> str:
         """Return the rows of a sheet as CSV, and count the hidden rows and columns among them."""
         text = io.StringIO("sep=,\n")
@@ -103,9 +103,7 @@ class Workbook:
             if number == MOST_ROWS or self.cells < 0:
                 raise ValueError("it has too many cells")
             last = next((at for at in range(len(row), 0, -1) if row[at - 1] is not None), 0)
-            cells = ["" if value is None else text_in(value) for value in row[:last]]
-            rows.writerow([text.replace(".", sign) if isinstance(value, float) else text
-                           for text, value in zip(cells, row)])
+            rows.writerow(["" if value is None else text_in(value) for value in row[:last]])
             self.texts.update((number + 1, column) for column, value in enumerate(row, 1)
                               if isinstance(value, str) and SEPARATED.fullmatch(value.strip()))
             self.hidden[0] += last > 0 and number + 1 in rows_hidden

@@ -59,23 +59,27 @@ def read(given: dict[str, Any], folder: str) -> dict[str, Any]:
         return read_rows(given.get("rows"), options)
     content = base64.b64decode(field(given, "content", str, "", 2**23), validate=True)
     name, sheet = field(given, "name", str, ""), field(options, "sheet", str)
-    faults, sheets = list[TableFault](), list[str]()
+    faults, sheets, marked = list[TableFault](), list[str](), None
     if content.startswith(tables.ARCHIVE):
         book = Workbook(content, name)
         sheets, sheet = book.names, sheet if sheet in book.names else book.first
-        table = book.csv_of(sheet, tables.MOST_ROWS + 2, field(options, "decimal", str) or ".")
+        table = book.csv_of(sheet, tables.MOST_ROWS + 2)
+        marked = [[*place] for place in sorted(book.texts)]
     else:
         table = tables.text_of(content, name, faults)
     delimiter = tables.delimiter_of(table)
     rows = [[line, cells] for line, cells in tables.records(table, name, delimiter)]
     if len(rows) > tables.MOST_ROWS:
         raise Wrong(f"the table has more than {tables.MOST_ROWS:,} rows")
-    return {"rows": rows, "delimiter": delimiter, "sheets": sheets, "sheet": sheet, "isOther": bool(faults),
-            **read_rows(rows, {**options, "delimiter": delimiter})}
+    return {"rows": rows, "delimiter": delimiter, "texts": marked, "sheets": sheets, "sheet": sheet,
+            "isOther": bool(faults), **read_rows(rows, {**options, "delimiter": delimiter, "texts": marked})}
 
 
 def read_rows(rows: Any, options: dict[str, Any]) -> dict[str, Any]:
-    """The shop of a table, or its faults by their cells."""
+    """The shop of a table, or its faults by their cells. A workbook's has `texts`, the cells that aren't numbers."""
+    marked = field(options, "texts", list)
+    if marked and not all(type(each) is list and [*map(type, each)] == [int, int] for each in marked):
+        raise OTHER_FORM
     machines, delimiter = texts(field(options, "machines", list, [])), field(options, "delimiter", str, ",")
     if delimiter not in (",", ";", "\t"):
         raise OTHER_FORM
@@ -83,7 +87,7 @@ def read_rows(rows: Any, options: dict[str, Any]) -> dict[str, Any]:
         table = tables.table_in(
             text_from(rows, delimiter).encode(), "table", field(options, "unit", str, ""),
             field(options, "decimal", str) or None, field(options, "totals", bool, False), machines or None,
-            None, field(options, "decimals", int))
+            None, field(options, "decimals", int), marked if marked is None else {*map(tuple, marked)})
     except TableFault as fault:
         found = [{"line": each.line, "column": each.column, "text": as_controls(each.text)}
                  for each in (fault, *fault.others)]

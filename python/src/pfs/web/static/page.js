@@ -5,8 +5,8 @@ sessionStorage.setItem("token", token);
 history.replaceState(null, "", location.pathname);
 const MOST = 6e6, TOO_LARGE = tr("The table is too large: 6 MB are the most.");
 // The document, which survives a reload. What the server said of its table and of its plan, and the search that runs.
-const blank = name => ({name, delimiter: ",", rows: [], machines: [], order: null, held: 0, least: 0, plans: [],
-                        seed: 0, controls: {}});
+const blank = name => ({name, delimiter: ",", rows: [], texts: null, machines: [], order: null, held: 0, least: 0,
+                        plans: [], seed: 0, controls: {}});
 let doc = blank(""), content = null, read = null, now = null, running = null, asked = 0, readings = 0;
 
 async function ask(path, body, method = body ? "POST" : "GET") {
@@ -37,7 +37,7 @@ function keep() {
 
 // 1 The table
 const options = () => ({...controls(), decimals: byId("decimals").value ? Number(byId("decimals").value) : null,
-                        machines: doc.machines, delimiter: doc.delimiter});
+                        machines: doc.machines, delimiter: doc.delimiter, texts: doc.texts});
 const take = doing(async file => {
   if (file.size > MOST) throw new Error(TOO_LARGE);
   const reader = new FileReader();
@@ -54,7 +54,7 @@ async function open() {
   doc.machines = [];
   const turn = ++readings, found = await ask("/api/read", {content, name: doc.name, options: options()});
   if (turn !== readings) return;
-  doc = {...doc, rows: found.rows, delimiter: found.delimiter, order: null, held: 0};
+  doc = {...doc, rows: found.rows, delimiter: found.delimiter, texts: found.texts, order: null, held: 0};
   byId("sheet").replaceChildren(...found.sheets.map(name => new Option(name, name, false, name === found.sheet)));
   show(found);
 }
@@ -130,6 +130,7 @@ async function edit(row, column, after) {
   const texts = row[1], before = texts[column - 1] || "", rename = each => each === before ? after : each;
   while (texts.length < column) texts.push("");
   texts[column - 1] = after;
+  doc.texts?.push([row[0], column]);
   if (row === read.head) doc.machines = doc.machines.map(rename);
   // A job that has another name keeps its place.
   else if (column === 1 && doc.order) doc.order = doc.order.map(rename);
@@ -277,7 +278,8 @@ byId("rest").onclick = doing(async () => {
     .map(each => [each.dataset.key, each.value]));
   const found = await ask("/api/rest", plan({at: byId("now").value, down}));
   restore({unit: "", decimal: "", decimals: "", begin: found.begin, totals: true, now: ""});
-  doc = {...doc, rows: found.rows, delimiter: found.delimiter, machines: [], order: found.order, held: found.held};
+  doc = {...doc, rows: found.rows, delimiter: found.delimiter, texts: null, machines: [], order: found.order,
+         held: found.held};
   content = null;
   readings += 1;
   show(found);
