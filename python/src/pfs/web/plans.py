@@ -87,7 +87,8 @@ def read_rows(rows: Any, options: dict[str, Any]) -> dict[str, Any]:
         table = tables.table_in(
             text_from(rows, delimiter).encode(), "table", field(options, "unit", str, ""),
             field(options, "decimal", str) or None, field(options, "totals", bool, False), machines or None,
-            None, field(options, "decimals", int), marked if marked is None else {*map(tuple, marked)})
+            None, field(options, "decimals", int),
+            None if marked is None else {(line, column) for line, column in marked})
     except TableFault as fault:
         found = [{"line": each.line, "column": each.column, "text": as_controls(each.text)}
                  for each in (fault, *fault.others)]
