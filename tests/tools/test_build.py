@@ -11,21 +11,25 @@ from support.tools import Done, output_of, run_tool, with_path, write_script
 
 # What tools/setup itself calls.
 TOOLS = ["awk", "dirname", "echo", "find", "grep", "ls", "sh", "tr", "xargs"]
-# It notes its crate, proves `low` and `app`, and fails in the crate `left`.
+# It notes its crate, proves `low` and `app`, and fails in `left`; `one` and `two` wait for each other.
 RT = """#!/bin/sh
 crate=${PWD##*/}
+wait_for() { until grep -q "^$1" "$NOTES"; do sleep 0.01; done; }
+[ $crate != two ] || wait_for one
 echo "$crate $1" >> "$NOTES"
 case $crate in
 low) echo 'logic=proved' ;;
 app) cat; echo 'logic=proved' >&2 ;;
 left) echo 'goal left open'; exit 7 ;;
+one) wait_for two ;;
 esac
 """
 
 
 @pytest.mark.parametrize(("targets", "status", "notes", "stdout", "said"), [
-    ("app lib", 0, "low lib, right lib, app run, lib lib", "the stored input\n",
-     "low: proved and built in 0:00 minutes, 3 left\napp: proved and built in 0:00 minutes, 1 left\n"),
+    ("app", 0, "low lib, right lib, app run", "the stored input\n",
+     "low: proved and built in 0:00 minutes, 2 left\napp: proved and built in 0:00 minutes, 0 left\n"),
+    ("one two", 0, "one lib, two lib", "", ""),
     ("above", 7, "low lib, left lib", "",
      "low: proved and built in 0:00 minutes, 2 left\ngoal left open\n"
      "build: left failed with status 7; see the output above or {0}/crates/left/out/build.log\n"),
@@ -35,8 +39,8 @@ def test_each_crate_is_built_once_after_those_below_it(targets: str, status: int
                                                        top: pathlib.Path, folder: pathlib.Path) -> None:
     """And none after one that fails."""
     (folder / "crates.txt").write_text("app: right low other\nright: low\nlow:\nabove: left\nleft: low\n"
-                                       "lib staticlib: right low\n")
-    for crate in ("app", "right", "low", "above", "left", "lib"):
+                                       "one staticlib:\ntwo:\n")
+    for crate in ("app", "right", "low", "above", "left", "one", "two"):
         (folder / "crates" / crate / "src").mkdir(parents=True)
     (folder / "crates" / "app" / "src" / "main.rt").touch()
     (folder / "crates" / "app" / "stdin").write_text("the stored input\n")
