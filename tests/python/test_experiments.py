@@ -813,7 +813,8 @@ def test_a_run_for_irace(experiment: Experiment, top: pathlib.Path) -> None:
     assert len(named) == 2 and all((top / "experiments" / name).is_file() for name in named)
 
 
-# In this many seconds of processor time, or without a limit; what a line, or a program, prints, and how many processes it leaves, or how it fails.
+# In this many seconds of processor time, or without a limit; what a line or a program prints, and how many processes it
+# leaves, or how it fails.
 SPIN = "setsid python3 -c 'import time\nwhile time.process_time() < 9: pass' "
 SLEEP = "setsid sleep 60 "
 LINES = [
@@ -1107,7 +1108,7 @@ def test_the_last_array_says_how_a_run_ended(folder: pathlib.Path) -> None:
     """By the times of the logs, which may have any bytes; numbers of arrays have more and more digits."""
     (folder / "slurm").mkdir()
     for age, name in enumerate(("9-1.log", "10-1.log")):
-        (folder / "slurm" / name).write_bytes(b"\xff\nrun 1\nrun 7\nslurmstepd-host: error: %s\n" % name.encode())
+        (folder / "slurm" / name).write_bytes(b"\xff\nrun 1\nrun 7\nrun 8 \nslurmstepd-host: error: %s\n" % name.encode())
         os.utime(folder / "slurm" / name, (age, age))
     assert run.endings(folder, ()) == {"7": "lost: 10-1.log"}
 
