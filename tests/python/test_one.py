@@ -7,6 +7,7 @@ import re
 import signal
 import subprocess
 import sys
+from itertools import accumulate
 from typing import Any
 from unittest import mock
 
@@ -17,7 +18,7 @@ from pfs.experiments.one import Failed, Found, Point
 from support.files import FILES, TWO_BLOCKS, generated
 from support.library import Library
 from support.program import Program
-from support.tools import run_tool, wait_until, write_script
+from support.tools import wait_until, write_script
 
 # The second of two blocks has three jobs. 10 is the makespan of 2 1 3 and a bound, and 11 is the makespan of 1 2 3.
 RUN = one.Run("7", "instances/1", "orlib", "2", "5", "-", "2", "1", "7", "1", "-", "3", "2", "shops/two.or", "m", "-")
@@ -49,24 +50,24 @@ def test_a_search_by_rounds_has_the_options_of_its_run(copies: pathlib.Path, mon
     assert one.by_rounds(RUN._replace(rounds="0", take="-")) == Found("order2 3 2\n2 1 3\nmakespan 10\n", "36", 1)
 
 
-# What a program prints in the place of pfs, and why the run fails.
-SOLVES = {"kill -HUP $$": "solve: signal 1", "printf 'a\\377\\nb\\n'; exit 1": "solve: exit 1, a\ufffd",
-          "echo a; echo b >&2; exit 4": "solve: exit 4, b", "exit 2": "solve: exit 2, ",
-          "echo o; echo cells 1; echo more": "solve: no cells printed", "echo cells 1": "solve: no cells printed",
-          r"printf '\377\ncells 123456789012345678901\n'": "solve: no cells printed"}
 SOUND = "printf 'valid\\nmakespan 10\\nbound 9\\n'"
-CHECKS = {f"{SOUND}; exit 1": "check: exit 1, valid, makespan 10, bound 9", "exit 0": "check: no verdict",
-          f"{SOUND}; echo a >&2": "check: a", "kill -HUP $$": "check: signal 1", "printf '\\377'": "check: \ufffd",
-          "printf 'valid\\nmakespan 10\\nbound 9x'": "check: valid, makespan 10, bound 9x"}
+# What a program prints in the place of pfs, and why the run fails.
+OTHER_PROGRAMS = [
+    ("kill -HUP $$", "solve: signal 1"), ("printf 'a\\377\\nb\\n'; exit 1", "solve: exit 1, a\ufffd"),
+    ("echo a; echo b >&2; exit 4", "solve: exit 4, b"), ("exit 2", "solve: exit 2, "),
+    *((line, "solve: no cells printed") for line in ("echo cells 1", "echo o; echo cells 1; echo more",
+                                                     "printf '\\377\\ncells 123456789012345678901\\n'")),
+    (f"{SOUND}; exit 1", "check: exit 1, valid, makespan 10, bound 9"), ("exit 0", "check: no verdict"),
+    (f"{SOUND}; echo a >&2", "check: a"), ("kill -HUP $$", "check: signal 1"), ("printf '\\377'", "check: \ufffd"),
+    ("printf 'valid\\nmakespan 10\\nbound 9x'", "check: valid, makespan 10, bound 9x")]
 
 
-@pytest.mark.parametrize("command", ["solve", "check"])
-def test_a_program_that_prints_something_else_fails_its_run(command: str, copies: pathlib.Path) -> None:
+def test_a_program_that_prints_something_else_fails_its_run(copies: pathlib.Path) -> None:
     assert one.audit(RUN, BEST) == ("10", "10") and one.audit(RUN, OTHER) == ("11", "10"), "as it is"
-    for line, wanted in (SOLVES if command == "solve" else CHECKS).items():
+    for line, wanted in OTHER_PROGRAMS:
         write_script(copies / "pfs", f"#!/bin/sh\n{line}\n")
         with pytest.raises(Failed) as failed:
-            one.by_rounds(RUN) if command == "solve" else one.audit(RUN, BEST)
+            one.by_rounds(RUN) if wanted.startswith("solve") else one.audit(RUN, BEST)
         assert str(failed.value) == wanted, line
 
 
@@ -95,28 +96,15 @@ def test_the_search_that_accepts_longer_orders_is_that_of_the_package(options: d
 
 
 def test_a_library_that_fails_fails_its_run(copies: pathlib.Path) -> None:
-    """One that is missing or lacks a function, and one that has no memory."""
-    def failure() -> str:
-        with pytest.raises(Failed) as failed:
+    """One that has no memory, lacks a function or is missing."""
+    for library, said in ((mock.Mock(pfs_prepare=lambda *_: 1), "solve: exit 4, pfs: no memory"),
+                          (mock.Mock(pfs_prepare=lambda *_: 22), "libpfs: pfs_prepare returns 22"),
+                          (mock.Mock(spec=[]), "libpfs: .*pfs_prepare.*")):
+        with mock.patch("ctypes.CDLL", return_value=library), pytest.raises(Failed, match=f"^{said}$"):
             one.by_library(RUN, {})
-        return str(failed.value)
-
-    for number, wanted in ((1, "solve: exit 4, pfs: no memory"), (22, "libpfs: pfs_prepare returns 22")):
-        with mock.patch("ctypes.CDLL", return_value=mock.Mock(pfs_prepare=lambda *_, number=number: number)):
-            assert failure() == wanted
-    with mock.patch("ctypes.CDLL", return_value=mock.Mock(spec=[])):
-        assert re.fullmatch("libpfs: .*pfs_prepare.*", failure())
     (copies / one.LIBRARY).unlink()
-    assert failure() == f"libpfs: {copies}/{one.LIBRARY}: cannot open shared object file: No such file or directory"
-
-
-def test_the_instance_of_a_search_is_released() -> None:
-    with mock.patch("ctypes.CDLL") as library:
-        library().pfs_prepare.return_value = 0
-        call = one.caller([3, 2], 1, 2)
-    assert not library().pfs_release.called
-    del call
-    library().pfs_release.assert_called_once_with(library().pfs_prepare.call_args.args[-1])
+    with pytest.raises(Failed, match=f"^libpfs: .*/{one.LIBRARY}: cannot open shared object file: No such file"):
+        one.by_library(RUN, {})
 
 
 # Commands
@@ -124,55 +112,48 @@ def test_the_instance_of_a_search_is_released() -> None:
 # What a command prints at the end and with makespans on the way, and its order, or why its run fails.
 COMMANDS: list[tuple[str, list[tuple[int, str]], str]] = [
     ("2 1 3\n", [], BEST), (BEST[:-1], [], BEST), (f"order2 3 2{OTHER[7:]}", [], f"order2 3 2{OTHER[7:]}"),
-    (" \n", [(11, "1 2 3"), (10, "2, 1, 3")], BEST), ("J2-J1-J3", [(11, "1 2 3")], BEST),
-    ("1 2 3", [(10, "2 1 3")], OTHER), ("1 1 1", [], "order 3\n1 1 1\nmakespan 0\n"),
-    ("", [], "command: nothing printed"), ("2 1 3\n1 2 3", [], "command: no order printed: '2 1 3'"),
+    (" \n", [(11, "1 2 3"), (11, "1 3 2"), (12, "x"), (10, "2, 1, 3"), (10, "")], BEST),
+    ("J2-J1-J3", [(11, "1 2 3")], BEST), ("1 2 3", [(10, "2 1 3")], OTHER),
+    ("1 1 1", [], "order 3\n1 1 1\nmakespan 0\n"), ("", [], "command: nothing printed"),
+    ("2 1 3\n1 2 3", [], "command: no order printed: '2 1 3'"), ("2 0 1", [], "command: job 0: jobs count from 1"),
     (f"{'x' * 39}yz", [], f"command: no order printed: '{'x' * 39}y'"),
-    ("", [(9, "x")], "command: no order printed: 'x'"), ("2 0 1", [], "command: job 0: jobs count from 1"),
+    ("", [(9, "x")], "command: no order printed: 'x'"),
     ("2 1 3", [(10, "1 2 3")], "check: exit 1, wrong makespan, stated 10, computed 11")]
 
 
 @pytest.mark.parametrize(("text", "printed", "wanted"), COMMANDS)
-def test_the_order_of_a_command_is_its_last_one_or_the_best_on_the_way(
-        text: str, printed: list[tuple[int, str]], wanted: str, copies: pathlib.Path,
-        monkeypatch: pytest.MonkeyPatch) -> None:
-    points = [Point(float(at), *each) for at, each in enumerate(printed)]
+def test_the_order_of_a_command_is_its_last_or_its_best_one(text: str, printed: list[tuple[int, str]], wanted: str,
+                                                            copies: pathlib.Path,
+                                                            monkeypatch: pytest.MonkeyPatch) -> None:
+    """And those on the way that are below all before are audited."""
+    points = [Point(at, *each) for at, each in enumerate(printed)]
     monkeypatch.setattr(one, "run_command", lambda *_: (text, 4.5, 2, points))
     try:
         found = one.by_command(["m"], RUN)
     except Failed as failure:
         assert str(failure) == wanted
     else:
-        assert found == Found(wanted, "", 4.5, "", 2, mock.ANY) and len(found.points) == len(points)
-
-
-def test_of_the_orders_on_the_way_those_below_all_before_are_kept(copies: pathlib.Path,
-                                                                 monkeypatch: pytest.MonkeyPatch) -> None:
-    """The others aren't audited."""
-    printed = [Point(1, 11, "1 2 3"), Point(2, 11, "1 3 2"), Point(3, 12, "x"), Point(4, 10, "2 1 3"), Point(5, 10, "")]
-    monkeypatch.setattr(one, "run_command", lambda *_: ("", 5, 0, printed))
-    assert one.by_command(["m"], RUN).points == [(1, 11, OTHER), (4, 10, BEST)]
+        spans = [span for span, _ in printed]
+        better = [(spans.index(span), span, (BEST, OTHER)[span - 10]) for span in dict.fromkeys(accumulate(spans, min))]
+        assert found == Found(wanted, "", 4.5, "", 2, better)
 
 
 def test_a_command_gets_the_values_of_its_run_and_a_copy_of_its_instance(copies: pathlib.Path,
                                                                        monkeypatch: pytest.MonkeyPatch) -> None:
     """Which nobody can write, and which is gone afterwards. Without a limit it has no time."""
-    got: list[tuple[list[str], str, float | None]] = []
-
     def run_command(words: list[str], folder: str, seconds: float | None) -> tuple[str, float, int, list[Point]]:
         copy = pathlib.Path(words[1])
         assert (copy.read_bytes(), copy.stat().st_mode & 0o777) == (TWO_BLOCKS, 0o444)
-        got.append((words, folder, seconds))
+        assert (words[2:], folder, seconds) == (["two.or", "x3x2", "7", limit, "2", "{"], f"{copies}/files", due)
+        seen.append(copy)
         return "2 1 3", 0.5, 0, []
 
+    seen = list[pathlib.Path]()
     monkeypatch.setattr(one, "run_command", run_command)
-    for limit in ("-", "0.25"):
+    for limit, due in (("-", None), ("0.25", 0.25)):
         one.by_command(["m", "{instance}", "{name}", "x{jobs}x{machines}", "{seed}", "{seconds}", "{block}", "{"],
                        RUN._replace(limit=limit))
-    assert [(words[2:], folder, seconds) for words, folder, seconds in got] == [
-        (["two.or", "x3x2", "7", limit, "2", "{"], f"{copies}/files", seconds)
-        for limit, seconds in (("-", None), ("0.25", 0.25))]
-    assert [words[1] for words, *_ in got if os.path.exists(words[1])] == []
+    assert [copy.exists() for copy in seen] == [False] * 2
 
 
 # What is printed of the runs
@@ -223,20 +204,6 @@ def test_the_starter_is_the_parent_and_its_parent(monkeypatch: pytest.MonkeyPatc
     assert one.starters() == (os.getppid(), parents[0].encode())
     monkeypatch.setattr(os, "getppid", lambda: 0)
     assert one.starters() == (0, b"")
-
-
-def test_the_copies_need_no_package_and_nothing_is_left_beside_them(copies: pathlib.Path) -> None:
-    run = EIGHT._replace(method="pfs")
-    (copies / "runs.tsv").write_text("\t".join(run) + "\n" + "\t".join(run._replace(limit="0.01")) + "\n"
-                                     + "\t".join(RUN) + "\n")
-    (copies / "commands.json").write_text(json.dumps({"m": ["echo", "3 1 2"]}))
-    (copies / "files").mkdir()
-    before = {*copies.rglob("*")}
-    done = run_tool(["python3", "-I", "-S", copies / "one", "1", "2", "3"], copies.parent)
-    (order, row), = one.results(run, [], None)
-    assert done.stdout.startswith(f"{len(order) + len(','.join(row)) + 1}\n{order}7,{row[1]},{row[2]},4824,"), done
-    assert re.findall(r"^7,.*(?:,ok,.*|,check.*)", done.stdout, re.MULTILINE)[1:] == [mock.ANY] * 2, done
-    assert {*copies.rglob("*")} == before
 
 
 @pytest.mark.parametrize("number", [signal.SIGTERM, signal.SIGKILL])
