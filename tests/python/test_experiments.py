@@ -1200,6 +1200,12 @@ def test_a_damaged_list_of_starts_is_begun_anew(damaged: bytes, folder: pathlib.
         assert len(json.loads((folder / "provenance.json").read_text())["starts"]) == count
 
 
+def test_the_lock_names_only_its_last_process(folder: pathlib.Path) -> None:
+    (folder / "lock").write_text("9" * 99)
+    stage.lock(folder, "out.csv")
+    assert (folder / "lock").read_text() == f"{os.getpid()} on {os.uname().nodename}"
+
+
 def test_the_library_that_was_loaded_is_copied(libpfs: Library, monkeypatch: pytest.MonkeyPatch) -> None:
     """Also if only its name is known, as where the system has it."""
     for path in (_library.FILE, str(libpfs.path)):
