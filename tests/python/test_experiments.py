@@ -22,7 +22,7 @@ from unittest import mock
 import pfs
 import pytest
 from hypothesis import given, strategies
-from pfs import _rounds
+from pfs import _library, _rounds
 from pfs._rounds import Rounds
 from pfs.experiments import one, plan, run, stage
 from support.experiments import HALF, HEAD, PLAN, Experiment
@@ -512,24 +512,26 @@ def test_readmes_plans_by_time(experiment: Experiment, with_library: dict[str, s
 
 def test_a_search_by_time_continues_with_another_seed(libpfs: Library, monkeypatch: pytest.MonkeyPatch) -> None:
     """After the last round of a seed, here the eighth. No part goes beyond it. If NEH takes as long as there is, no
-    round begins. By the clock NEH takes 3 s and a round 1 s."""
+    round begins. By the clock NEH takes 3 s and a round 1 s. The time is noted after NEH and after each part."""
     def search(number: int) -> Rounds:
         return Rounds(one.caller([at * at % 97 for at in range(1, 201)], 20, 10), 20, 4, 0, number % 2 ** 64)
 
     def spent_by(found: Rounds, seconds: float) -> float:
         monkeypatch.setattr(time, "process_time", lambda: 10.0 + (3 + found.last.total if found.last else 0))
-        return one.search(found, seconds)
+        notes.clear()
+        return one.search(found, seconds, None, notes.append)
 
+    notes = list[float]()
     monkeypatch.setattr(one, "HERE", str(libpfs.path.parent))
     monkeypatch.setattr(one, "LIBRARY", libpfs.path.name)
     for seconds, spent, rounds in ((2.5, 3, 0), (5, 4, 1)):
         found = search(1)
-        assert (spent_by(found, seconds), found.finished().total) == (spent, rounds)
+        assert (spent_by(found, seconds), found.finished().total) == (spent, rounds) and notes == [3, 4][:rounds + 1]
     monkeypatch.setattr(_rounds, "PART", 5)
     monkeypatch.setattr(_rounds, "MOST_ROUNDS", 8)
     seed, step = 2 ** 64 - 5, 11400714819323198485
     found = search(seed)
-    assert spent_by(found, 18) <= 18 and found.finished().total > 12
+    assert (spent_by(found, 18), notes) == (18, [3, 4, 8, 11, 16, 18]) and found.finished().total == 15
     monkeypatch.setattr(_rounds, "MOST_ROUNDS", 1_000_000)
     orders = []
     for second in (seed + step, seed):
@@ -574,8 +576,9 @@ command = "./mine {{instance}} {{seed}} {{seconds}} {{name}} {{jobs}} {{machines
 """
 
 
-# Uses 0.3 seconds of processor time.
-BUSY = "import time\nwhile time.process_time() < 0.3: pass\n"
+# Uses 0.3 seconds of processor time, the second half of them in the system.
+BUSY = ("import os, time\nwhile time.process_time() < 0.15: pass\n"
+        "while time.process_time() < 0.3: os.urandom(99999)\n")
 
 
 def with_other(experiment: Experiment, plan: str, program: str) -> Experiment:
@@ -711,12 +714,10 @@ def test_a_run_has_the_orders_of_shorter_ones(experiment: Experiment, stated: St
 
 
 def test_an_order_on_the_way_that_is_wrong_or_late_fails(experiment: Experiment, stated: Stated) -> None:
-    """A wrong makespan, also of a line whose run then finds a better order, an order that isn't one, and too many. The
-    last order may be printed without its makespan, and be longer. A line that says more isn't an order."""
+    """A wrong makespan, also of a line whose run then finds a better order, and too many. The last order may be printed
+    without its makespan, and be longer. A line that says more isn't an order."""
     wrong = stated[0].replace("1448", "1447")
     texts = {"wrong": (wrong, 2, "check: exit 1, wrong makespan, stated 1447, computed 1448"),
-             "no order": ("makespan 1448 3 x", 2, "command: no order printed: '3 x'"),
-             "0": ("makespan 1448 0 1", 2, "command: job 0: jobs count from 1"),
              "longer": ("\n".join([stated[1], stated[0].split(" ", 2)[2]]), 0, "ok"),
              "many": ("\n".join([stated[0]] * 1001), 2, "command: more than 1,000 makespans printed"),
              "most": ("\n".join([stated[0]] * 999), 0, "ok"),
@@ -810,7 +811,8 @@ def test_a_run_for_irace(experiment: Experiment, top: pathlib.Path) -> None:
     assert len(named) == 2 and all((top / "experiments" / name).is_file() for name in named)
 
 
-# In this many seconds of processor time; what a line prints, and how many processes it leaves, or how it fails.
+# In this many seconds of processor time, or without a limit; what a line or a program prints, and how many processes it
+# leaves, or how it fails.
 SPIN = "setsid python3 -c 'import time\nwhile time.process_time() < 9: pass' "
 SLEEP = "setsid sleep 60 "
 LINES = [
@@ -822,18 +824,25 @@ LINES = [
     ("0.01", "python3 -c 'import time\nwhile time.process_time() < 0.3: pass'; printf '4\\377'", "4\ufffd 0"),
     ("9", "kill -9 $$", "signal 9"), ("9", "printf 'first\\n a  \\377 ' >&2; exit 3", "exit 3, a \ufffd"),
     ("9", "printf '%0999d b\n' 0 >&2; exit 3", "exit 3, 0{200}"),
+    ("9", "printf 'a%999s' b >&2; exit 3", "exit 3, a b"), ("9", "printf 'a%1000s' b >&2; exit 3", "exit 3, b"),
+    ("5", "ulimit -t; ulimit -Ht", "8\n8 0"), ("0.4", "ulimit -t", "2 0"), ("null", "ulimit -t", "unlimited 0"),
+    ("9", "cat; echo 5", "5 0"), ("9", "kill -9 0", "signal 9"), ("9", ["./none"], "No such file or directory"),
+    ("9", ["\ud800"], ".* surrogates not allowed"),
     ("9", "head -c 2000000 /dev/zero; sleep 2; touch late", "more than 1,048,576 bytes printed"),
 ]
 
 
-@pytest.mark.parametrize(("seconds", "line", "wanted"), LINES, ids=[line[:30] for _, line, _ in LINES])
+@pytest.mark.parametrize(("seconds", "line", "wanted"), LINES, ids=[ascii(line)[:30] for _, line, _ in LINES])
 def test_a_program_that_waits_or_takes_too_long_is_ended_with_all_that_it_has_started(
-        seconds: str, line: str, wanted: str, folder: pathlib.Path) -> None:
-    code = ("import sys; from pfs.experiments import one; one.PATIENCE = 3\n"
-            "try: text, _, left, _ = one.run_command(['sh', '-c', sys.argv[2]], '.', float(sys.argv[1]))\n"
+        seconds: str, line: str | list[str], wanted: str, folder: pathlib.Path) -> None:
+    """It has no input, and is apart from the group of its starter."""
+    words = json.dumps(["sh", "-c", line] if isinstance(line, str) else line)
+    code = ("import json, sys; from pfs.experiments import one; one.PATIENCE = 3\n"
+            "try: text, _, left, _ = one.run_command(json.loads(sys.argv[2]), '.', json.loads(sys.argv[1]))\n"
             "except one.Failed as failure: print(failure)\nelse: print(text.strip(), left)\n")
     env = dict(os.environ, PYTHONPATH=str(pathlib.Path(one.__file__).parents[2]))
-    got = run_tool(["/usr/bin/python3", "-B", "-c", code, seconds, line], folder, env=env)
+    got = run_tool(["/usr/bin/python3", "-B", "-c", code, seconds, words], folder, env=env, stdin=None, input="x",
+                   start_new_session=True)
     assert (got.status, got.stderr) == (0, "") and re.fullmatch(wanted, got.stdout.strip()), got
     left = [path for path in pathlib.Path("/proc").glob("[0-9]*/cwd") if os.path.realpath(path) == str(folder)]
     assert left == [] and os.listdir(folder) == [], "processes that are left, or what they have done late"
@@ -1097,7 +1106,7 @@ def test_the_last_array_says_how_a_run_ended(folder: pathlib.Path) -> None:
     """By the times of the logs, which may have any bytes; numbers of arrays have more and more digits."""
     (folder / "slurm").mkdir()
     for age, name in enumerate(("9-1.log", "10-1.log")):
-        (folder / "slurm" / name).write_bytes(b"\xff\nrun 1\nrun 7\nslurmstepd-host: error: %s\n" % name.encode())
+        (folder / "slurm" / name).write_bytes(b"\xff\nrun 1\nrun 7\nrun 8 \nslurmstepd-a: error: %s\n" % name.encode())
         os.utime(folder / "slurm" / name, (age, age))
     assert run.endings(folder, ()) == {"7": "lost: 10-1.log"}
 
@@ -1178,13 +1187,30 @@ def test_the_file_has_the_version_the_sums_and_each_start(mine: Experiment, top:
     assert json.loads((mine.runs / "provenance.json").read_text())["sha256"] == wanted, "sums of the copies"
     assert mine.run("new.csv") == ended(2, name="new.csv")
     assert mine.columns("makespan", csv_name="new.csv") != before * 2
-    for damaged in (b"", b"{", b"[1]", b'{"starts": 3}', b"\xff"):
-        (mine.runs / "provenance.json").write_bytes(damaged)
-        assert mine.run().status == 0
-        assert len(json.loads((mine.runs / "provenance.json").read_text())["starts"]) == 1
     for name in ("mine", "data"):
         (mine.folder / name).rename(mine.folder / f"{name}.gone")
     assert "no file matches data" in mine.run().stderr
+
+
+@pytest.mark.parametrize("damaged", [b"", b"{", b"[1]", b'{"starts": 3}', b"{}", b"\xff", b"[" * 100_000])
+def test_a_damaged_list_of_starts_is_begun_anew(damaged: bytes, folder: pathlib.Path) -> None:
+    (folder / "provenance.json").write_bytes(damaged)
+    for count in (1, 2):
+        stage.note_start(folder / "stage", {}, {})
+        assert len(json.loads((folder / "provenance.json").read_text())["starts"]) == count
+
+
+def test_the_lock_names_only_its_last_process(folder: pathlib.Path) -> None:
+    (folder / "lock").write_text("9" * 99)
+    stage.lock(folder, "out.csv")
+    assert (folder / "lock").read_text() == f"{os.getpid()} on {os.uname().nodename}"
+
+
+def test_the_library_that_was_loaded_is_copied(libpfs: Library, monkeypatch: pytest.MonkeyPatch) -> None:
+    """Also if only its name is known, as where the system has it."""
+    for path in (_library.FILE, str(libpfs.path)):
+        monkeypatch.setattr(_library, "PATH", path)
+        assert stage.library() == str(libpfs.path)
 
 
 def test_a_reference_must_name_an_instance_and_status_writes_what_there_is(experiment: Experiment) -> None:

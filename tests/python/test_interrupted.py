@@ -7,7 +7,7 @@ from unittest import mock
 
 import pfs
 import pytest
-from pfs import _library
+from pfs import _library, _search
 from pfs._search import Search
 from pfs._state import State, StateInUse
 
@@ -35,6 +35,13 @@ def test_an_interruption_of_the_preparation_leaves_nothing_to_release(name: str,
         pfs.generate(5, 2, 1).makespan([0])
     gc.collect()
     assert pfs.generate(5, 2, 1).makespan([0]) > 0 and caught == []
+
+
+def test_a_second_interruption_of_a_search_keeps_its_best_order(monkeypatch: pytest.MonkeyPatch) -> None:
+    monkeypatch.setattr(_search, "solve", mock.Mock(side_effect=KeyboardInterrupt))
+    with pytest.raises(pfs.Interrupted) as stop:
+        pfs.generate(5, 2, 1).solve(9)
+    assert stop.value.solution.order.tolist() == pfs.generate(5, 2, 1).neh().order.tolist()
 
 
 def test_a_library_that_is_missing(tmp_path: pathlib.Path, monkeypatch: pytest.MonkeyPatch) -> None:

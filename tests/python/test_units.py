@@ -31,7 +31,9 @@ def test_a_text_is_written_or_its_stream_is_closed_for_good() -> None:
     assert _cli.written(text, "a") and _cli.written(text, "b") and text.getvalue() == "ab"
     assert not _cli.written(None, "a")
     with open("/dev/full", "w") as full:
+        before = os.listdir("/proc/self/fd")
         assert not _cli.written(full, "a") and _cli.written(full, "b")
+        assert os.listdir("/proc/self/fd") == before, "a descriptor is left"
 
 
 @pytest.mark.parametrize(("error", "status", "said"), [
@@ -47,13 +49,16 @@ def test_errors_of_a_program(error: BaseException, status: int, said: str, capsy
 
 def test_the_help_has_no_word_that_is_nowhere_else() -> None:
     """In the pages, the manuals and the tests: no word is cut or misspelled. Texts of options also end with two words
-    that are there one after the other, or go on, default all, in TOML, and source, in inches, or no titles."""
+    that are there one after the other, or go on, default all, in TOML, and source, in inches, or no titles. Each
+    program has its name."""
     pages = [*TOP.glob("*.md"), *(path for folder in ("docs", "share", "python", "experiments", "tests")
                                   for ending in ("md", "1", "py") for path in (TOP / folder).rglob(f"*.{ending}")
                                   if path.suffix != ".py" or folder == "tests")]
     pairs = {pair for page in pages for pair in pairwise(re.findall("[a-z0-9]+", page.read_text().lower()))}
     known = {word for pair in pairs for word in pair}
-    for parser in (words(), _gantt.words(), web_words(), command_line()):
+    for name, parser in {"python3 -m pfs": words(), "pfs-gantt": _gantt.words(), "pfs-web": web_words(),
+                         "pfs-experiments": command_line()}.items():
+        assert parser.format_usage().startswith(f"usage: {name} ")
         commands: dict[str, Any] = next((each.choices for each in parser._actions
                                          if isinstance(each.choices, dict)), {})
         for each in (parser, *commands.values()):

@@ -33,6 +33,12 @@ def test_makespan_and_insertions(case: tuple[plainly.Table, list[int]]) -> None:
         assert shop.best_place(sequence, job) == plainly.best_place(times, sequence, job)
 
 
+def test_all_places_in_a_long_sequence() -> None:
+    """On one machine all orders take equally long."""
+    shop = pfs.generate(300, 1, 1)
+    assert shop.places(range(1, 300), 0).tolist() == [int(shop.times.sum())] * 300
+
+
 @pytest.mark.quick
 @given(plainly.shops(5, 5))
 def test_bounds_and_neh(times: plainly.Table) -> None:

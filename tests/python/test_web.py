@@ -291,8 +291,9 @@ def test_a_file_is_read_with_its_rows(client: FlaskClient) -> None:
     got = read(client, TABLE)
     assert got["shop"] == SHOP and got["faults"] == [] and got["delimiter"] == ";"
     assert got["rows"][1] == [2, ["table", "3", "2,5", "4"]]
-    again = answer(client, "/api/read", {"rows": got["rows"], "options": {"delimiter": ";"}})
-    assert again["shop"] == SHOP
+    for delimiter in (";", "\t"):
+        again = answer(client, "/api/read", {"rows": got["rows"], "options": {"delimiter": delimiter}})
+        assert again["shop"] == SHOP
 
 
 def test_faults_name_their_cells_and_controls(client: FlaskClient) -> None:

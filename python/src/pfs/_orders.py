@@ -73,7 +73,7 @@ def stated_end(path: str | os.PathLike[str]) -> str:
     text = text_of(content_of(os.fspath(path)), os.fspath(path))
     lines = [line.strip() for line in islice(lines_of(text), 4)]
     if len(lines) > 1 and all(HEAD.fullmatch(line) for line in lines[:2]):
-        return ", ".join([lines[0], *(line for line in lines[2:] if AFTER[1].fullmatch(line))])
+        return ", ".join([lines[0], *(line for line in lines if AFTER[1].fullmatch(line))])
     dates = re.findall(r'[;,\t]"?([0-9]{4}-[0-9]{2}-[0-9]{2} [0-9:.]+(?:,[0-9]+)?)"?\r?$', text, re.MULTILINE)
     return f"end {max(dates).removesuffix(':00') if len(max(dates)) > 16 else max(dates)}" if dates else ""
 

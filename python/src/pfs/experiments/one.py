@@ -202,8 +202,7 @@ def by_command(words: list[str], run: Run) -> Found:
         audit(run, point.order)
     if jobs:
         first = f"order {len(jobs)}"
-        verdict = run_pfs(run, "check", text=order_file(first, jobs, 0)).stdout.decode(errors="replace")
-        computed = re.search("^computed ([0-9]{1,18})$", verdict, re.MULTILINE)
+        computed = re.search(rb"\ncomputed ([0-9]+)", run_pfs(run, "check", text=order_file(first, jobs, 0)).stdout)
         order = order_file(first, jobs, int(computed[1]) if computed else 0)
     return Found(order or points[-1].order, "", spent, left=left, points=points)
 
@@ -372,9 +371,9 @@ def main() -> None:
     """Makes the runs one after the other, until what has started this process is gone."""
     before, groups = starters(), [[*map(int, word.split(","))] for word in sys.argv[1:]]
     wanted = {number for group in groups for number in group}
-    with open(os.path.join(HERE, "runs.tsv"), encoding="utf-8", newline="\n") as file:
+    with open(os.path.join(HERE, "runs.tsv"), encoding="utf-8") as file:
         runs = {number: Run._make(line[:-1].split("\t")) for number, line in enumerate(file, 1) if number in wanted}
-    with open(os.path.join(HERE, "commands.json"), encoding="utf-8") as file:
+    with open(os.path.join(HERE, "commands.json"), "rb") as file:
         commands = json.load(file)
     for first, *others in groups:
         if starters() == before:

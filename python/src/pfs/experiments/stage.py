@@ -225,8 +225,7 @@ def note_start(stage: pathlib.Path, plan: dict[str, Any], inputs: dict[str, str]
     path, starts = stage.parent / "provenance.json", []
     with contextlib.suppress(OSError, ValueError, RecursionError, KeyError, TypeError):
         starts = list(json.loads(path.read_bytes())["starts"])
-    cpuinfo = pathlib.Path("/proc/cpuinfo")
-    processor = re.search(r"(?m)^model name\s*: *(.*)", cpuinfo.read_text(errors="replace") if cpuinfo.exists() else "")
+    processor = re.search(r"(?m)^model name\s*: *(.*)", pathlib.Path("/proc/cpuinfo").read_text("latin-1"))
     starts.append({"at": datetime.datetime.now(datetime.timezone.utc).isoformat(timespec="seconds"),
                    "host": os.uname().nodename, "processor": processor[1] if processor else platform.processor(),
                    "processors": os.cpu_count(), "system": platform.platform(), "python": platform.python_version()})
@@ -322,10 +321,9 @@ def decimal(number: float) -> str:
 
 def size_of(stage: pathlib.Path, *words: str) -> tuple[str, str]:
     """Returns the jobs and machines of an instance, as texts, which are empty if pfs rejects it."""
-    done = subprocess.run(["./pfs", "convert", "--to", "orlib", *words], cwd=stage, stdin=subprocess.DEVNULL,
-                          capture_output=True, text=True, errors="replace")
-    size = re.match("flow shop instance\n([0-9]{1,4}) ([0-9]{1,3})\n", done.stdout)
-    return (size[1], size[2]) if size and done.returncode == 0 else ("", "")
+    done = subprocess.run(["./pfs", "convert", "--to", "orlib", *words], cwd=stage, capture_output=True)
+    size = re.match(rb"flow shop instance\n([0-9]+) ([0-9]+)", done.stdout)
+    return (size[1].decode(), size[2].decode()) if size else ("", "")
 
 
 def stored_plan(folder: pathlib.Path) -> dict[str, Any]:
