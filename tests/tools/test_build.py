@@ -1,5 +1,5 @@
-"""tools/build, with a program in place of `rt`: which crates it builds, and what it says of them. And tools/setup: the
-packages of its lists, and what it says when it installs them."""
+"""tools/build, with a program in place of `rt`: which crates it builds, and what it says of them. What other scripts
+and the goals of `make` call. And tools/setup: the packages of its lists, and what it says when it installs them."""
 import os
 import pathlib
 import re
@@ -47,6 +47,75 @@ def test_each_crate_is_built_once_after_those_below_it(targets: str, status: int
     got = run_tool([build, *targets.split()], folder, env=with_path(folder / "bin") | {"NOTES": str(folder / "notes")})
     assert got == Done(status, stdout, said.format(folder))
     assert ", ".join((folder / "notes").read_text().splitlines()) == notes
+
+
+# What others call: here each call is noted, makes its files in lib/out, and fails if it is the one with this number
+
+NOTE = """#!/bin/sh
+case $0 in /*) set -- "${0##*/}" "$@" ;; *) set -- "$0" "$@" ;; esac
+(IFS='|'; echo "$*${GIT_DIR-}" >> "$NOTES")
+for word; do case $word in lib/out/*) echo made > "$word" ;; esac; done
+[ "$(grep -c . "$NOTES")" != "$FAILS" ] || exit 7
+"""
+CALLED = ["tools/build", "tools/dist", "tools/library", "tools/setup", "tools/site/build", "tools/test", "tools/try",
+          "tests/fuzz.py", "tests/mutants.py", "bin/ar", "bin/ld", "bin/make", "bin/my-cc", "bin/objcopy",
+          "bin/python3", "bin/rt"]
+
+
+def calls_of(words: list[str], top: pathlib.Path, folder: pathlib.Path, fails: int = 0,
+             **env: str) -> tuple[int, list[str]]:
+    """The status of a script or of `make`, and what it calls."""
+    for name in ("lib/out", "crates/pfs/out", "crates/pfs_c/out"):
+        (folder / name).mkdir(parents=True, exist_ok=True)
+    for name in ("crates/pfs/stdin", "crates/pfs_c/out/libpfs_c.a", "crates.txt", "notes"):
+        (folder / name).write_text("")
+    for name in CALLED:
+        write_script(folder / name, NOTE)
+    for name in {"Makefile", words[0]} - {"/usr/bin/make"}:
+        write_script(folder / name, (top / name).read_text().replace("/usr/bin/python3", "python3"))
+    env |= {"FAILS": str(fails), "NOTES": f"{folder}/notes"}
+    got = run_tool(words, folder, env=with_path(folder / "bin") | env)
+    return got.status, (folder / "notes").read_text().splitlines()
+
+
+@pytest.mark.parametrize(("script", "steps"), [("tools/test", 4), ("tools/try", 2), (".ci/run", 4),
+                                               ("tools/hooks/pre-commit", 1)])
+def test_a_script_ends_where_a_step_fails(script: str, steps: int, top: pathlib.Path, folder: pathlib.Path) -> None:
+    for fails in range(steps + 1):
+        status, calls = calls_of([script], top, folder, fails)
+        assert (status, len(calls)) == (7 if fails else 0, fails or steps), calls
+
+
+def test_the_hook_checks_as_outside_of_the_commit(top: pathlib.Path, folder: pathlib.Path) -> None:
+    """Else the git of the tests would work on the repository itself."""
+    assert calls_of(["tools/hooks/pre-commit"], top, folder, GIT_DIR="nowhere") == (0, ["make|-s|check"])
+
+
+# Where `make` has a variable, it is another one than the default.
+@pytest.mark.parametrize(("goal", "last"), [
+    ("try", "tools/try"), ("run", "tools/build"), ("lib", "tools/library"), ("test", "tools/test"),
+    ("check PYTEST=python3", "python3|-n|auto|-q|-m|check"), ("fuzz MINUTES=2", "tests/fuzz.py|--seconds|120"),
+    ("mutants COUNT=7", "tests/mutants.py|7"), ("docs", "tools/site/build"),
+    ("dist DIST=a/b", "tools/dist|a/b"), ("wheel DIST=a/b", "tools/dist|wheel|a/b")])
+def test_a_goal_of_make_calls_its_script(goal: str, last: str, top: pathlib.Path, folder: pathlib.Path) -> None:
+    """Also where there is a folder or a file of its name."""
+    for name in ("docs", "run", "check", "dist", "wheel"):
+        (folder / name).mkdir()
+    status, calls = calls_of(["/usr/bin/make", *goal.split()], top, folder)
+    assert status == 0 and calls[-1:] == [last], calls
+
+
+def test_the_library_is_made_by_the_compiler_that_is_named(top: pathlib.Path, folder: pathlib.Path) -> None:
+    """If a step fails, the one of before stays; and nothing else is left."""
+    for fails, due in ((0, "made"), *((step, "old") for step in range(2, 9))):
+        (folder / "lib" / "out").mkdir(parents=True, exist_ok=True)
+        for name in ("libpfs.a", "libpfs.so.1"):
+            (folder / "lib" / "out" / name).write_text("old\n")
+        status, calls = calls_of(["tools/library"], top, folder, fails, CC="my-cc", CFLAGS="-g -Og")
+        assert status == (7 if fails else 0), calls
+        assert {path.name: path.read_text() for path in (folder / "lib" / "out").iterdir()} == dict.fromkeys(
+            ("libpfs.a", "libpfs.so.1"), f"{due}\n")
+    assert [call.count("|-g|-Og|") for call in calls if call.startswith("my-cc|")] == [1, 1, 0]
 
 
 # Packages

@@ -344,13 +344,15 @@ def test_a_wheel_holds_the_package_and_the_library(made: Made) -> None:
 
 
 def test_pip_replaces_a_wheel_by_one_of_a_later_commit(made: Made, folder: pathlib.Path) -> None:
-    """In a clean environment, where NumPy is the system's."""
+    """In a clean environment, where NumPy is the system's. A release in the wheel's folder stays."""
     if sys.prefix != sys.base_prefix:
         pytest.skip("an environment inside another one has no packages of the system")
     require_module("pip")
     env = {name: value for name, value in os.environ.items() if name not in ("PFS_LIBRARY", "PYTHONPATH")}
     output_of([sys.executable, "-m", "venv", "--system-site-packages", "--without-pip", "clean"], folder)
-    assert made.copy.make("wheel", f"DIST={folder}", SOURCE_DATE_EPOCH="900000000").status == 0
+    sums = folder / "SHA256SUMS"
+    sums.write_text(f"{'0' * 64}  SHA256SUMS\n")
+    assert made.copy.make("wheel", f"DIST={folder}", SOURCE_DATE_EPOCH="900000000").status == 0 and sums.exists()
     [older] = folder.glob("*.whl")
     for wheel, version in ((older, f"{VERSION}+19980709.160000"), (made.path(".whl"), BETWEEN)):
         words = ["clean/bin/python3", "-m", "pip", "--disable-pip-version-check", "install", "-q", "--no-index"]
