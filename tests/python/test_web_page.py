@@ -30,6 +30,11 @@ MONDAY = [["Plan KW 49"], ["Auftrag", "Menge", "S\u00e4ge [min]", "Bohren [min]"
           [SCRIPT, 1, 25, 35, 20], ["A-6", 2, 15, 45, 30], ["Summe", None, 140, 125, 165]]
 
 
+CONTROLS = "input, select, textarea, button"
+UNNAMED = """return [...document.querySelectorAll(arguments[0])].filter(each =>
+    !each.ariaLabel && !each.textContent.trim() && !each.labels?.length).map(each => each.outerHTML)"""
+
+
 class Page:
     """The page in a browser."""
 
@@ -137,6 +142,8 @@ def planned(page: Page) -> None:
 
 def test_a_week(page: Page) -> None:
     page.open()
+    # Before there is a table, nothing can be done with it.
+    assert [each.get_attribute("id") for each in page.all(CONTROLS) if each.is_displayed()] == ["language", "file"]
     page.drop("week.xlsx", monday())
     # Monday: the faults are at their cells. One button chooses the machines; cells are mended, and a row left out.
     page.wait(lambda: page.one("#suggest").is_displayed())
@@ -186,6 +193,7 @@ def test_a_week(page: Page) -> None:
     page.browser.refresh()
     page.wait(lambda: (page.order(), page.text("#ends"), page.one("#shifts").get_attribute("value")) == before)
     assert page.text("#plans tr:nth-child(2) td:nth-child(1)") == "Plan 1"
+    assert page.browser.execute_script(UNNAMED, CONTROLS) == [], "controls of which nothing tells what they do"
     # From now on, with a machine that is down.
     page.browser.execute_script("arguments[0].value = '2026-11-30T07:00'", page.one("#now"))
     page.browser.execute_script("arguments[0].value = '2026-11-30T07:45'", page.all("#machines input")[1])
@@ -197,7 +205,7 @@ def test_a_week(page: Page) -> None:
     # Downloads.
     page.write(page.one("#title"), "../KW 49")
     for kind, start in (("csv", b"\xef\xbb\xbfjob;machine"), ("xlsx", b"PK"), ("zip", b"PK"), ("html", b"<!DOCTYPE"),
-                        ("txt", b"")):
+                        ("pdf", b"%PDF"), ("txt", b"")):
         path = page.downloads / f"---KW 49.{kind}"
         page.click(f"[data-kind={kind}]")
         page.wait(lambda: path.exists() and path.stat().st_size, f"{path} in {[*page.downloads.iterdir()]}")
@@ -294,8 +302,18 @@ def test_what_the_page_asks_and_keeps(page: Page) -> None:
 
     page.open()
     run(NOTE)
-    page.paste(TABLE)
+    # A file is dropped, another one chosen, and chosen again when it has changed. An option holds for the next request.
+    run(DRAG, "dragover")
+    assert page.one("#drop").get_attribute("class") == "over"
+    run(DRAG, "drop")
+    page.wait(lambda: page.text("#read").startswith("dropped.csv: 2 jobs") and not page.all(".over"))
+    page.drop("chosen.csv", b"job,saw\nJ1,1\n")
+    page.wait(lambda: page.text("#read").startswith("chosen.csv: 1 jobs"))
+    page.drop("chosen.csv", TABLE.encode())
     page.wait(lambda: "12 jobs" in page.text("#read"))
+    for name, value, due in (("unit", "h", "h"), ("decimal", ",", ","), ("decimals", "0", 0), ("unit", "min", "min")):
+        change(f"#{name}", value)
+        page.wait(lambda: asked("/api/read")["options"][name] == due and "12 jobs" in page.text("#read"))
     # The table: machines are chosen and renamed, and a row is added. A field takes what is pasted into it.
     press("3,machine")
     page.wait(lambda: "1 machines (saw)" in page.text("#read") and asked("/api/read")["options"]["machines"] == ["saw"])
@@ -339,6 +357,15 @@ def test_what_the_page_asks_and_keeps(page: Page) -> None:
     press("1,forget")
     page.wait(lambda: len(page.all("#plans tr")) == 2)
     assert page.text("#plans tr:nth-child(2) td") == "one"
+    for name, value in (("shifts", "06:00-14:00"), ("days", "mon-sat"), ("closed", "2026-12-24")):
+        change(f"#{name}", value)
+        page.wait(lambda: asked("/api/plan")["calendar"][name] == value)
+    # A place that no job can have is put back.
+    before, place = page.order(), f"{page.order()[4]}:place"
+    for text in ("0", "14", "1.5", "-"):
+        page.write(page.key(place), text)
+        page.wait(lambda: page.key(place).get_attribute("value") == "5")
+    assert page.order() == before
     # The third job is held with those before it. A response that comes late replaces no later one.
     press(f"{page.order()[2]}:hold")
     page.wait(lambda: len(page.all("#order tr.held")) == 3)
@@ -376,9 +403,38 @@ def test_what_the_page_asks_and_keeps(page: Page) -> None:
     page.wait(lambda: page.text("h1") == "Flie\u00dffertigung planen" and page.text("#read") == "")
 
 
+# Drags a file over the page, or drops it.
+DRAG = """const dataTransfer = new DataTransfer();
+dataTransfer.items.add(new File(["job,saw\\nJ1,1\\nJ2,2\\n"], "dropped.csv"));
+window.dispatchEvent(new DragEvent(arguments[0], {dataTransfer, cancelable: true}));"""
+
+
 def now_begins(page: Page) -> str:
     """When the first job of the plan that is shown begins."""
     return str(page.browser.execute_script("return now.jobs[0][1]"))
+
+
+def test_the_page_has_the_language_of_the_browser(page: Page) -> None:
+    """At first, also where that is of a country. What is chosen stays."""
+    agent = page.browser.execute_script("return navigator.userAgent")
+
+    def prefer(language: str) -> None:
+        page.browser.execute_cdp_cmd("Network.setUserAgentOverride", {"userAgent": agent, "acceptLanguage": language})
+
+    def languages() -> tuple[str | None, Any]:
+        return page.one("html").get_attribute("lang"), page.one("#language").get_property("value")
+
+    page.open()
+    try:
+        for language, due in (("de", "de"), ("de-AT", "de"), ("en-GB", "en"), ("nl", "en")):
+            prefer(language)
+            page.browser.execute_script("localStorage.removeItem('language')")
+            page.browser.refresh()
+            page.wait(lambda: languages() == (due, due))
+        Select(page.one("#language")).select_by_value("de")
+        page.wait(lambda: languages() == ("de", "de"))
+    finally:
+        prefer("en")
 
 
 def test_in_german_on_a_phone(page: Page) -> None:

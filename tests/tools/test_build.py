@@ -105,6 +105,12 @@ def test_a_goal_of_make_calls_its_script(goal: str, last: str, top: pathlib.Path
     assert status == 0 and calls[-1:] == [last], calls
 
 
+def test_the_list_of_goals_is_whole(top: pathlib.Path) -> None:
+    listed = re.findall(r"^make (\S+)  ", output_of(["make", "-s", "help"], top), re.MULTILINE)
+    phony = re.findall(r"^\.PHONY: (.*)", (top / "Makefile").read_text(), re.MULTILINE)
+    assert sorted(listed) == sorted(" ".join(phony).split())
+
+
 def test_the_library_is_made_by_the_compiler_that_is_named(top: pathlib.Path, folder: pathlib.Path) -> None:
     """If a step fails, the one of before stays; and nothing else is left."""
     for fails, due in ((0, "made"), *((step, "old") for step in range(2, 9))):
@@ -143,27 +149,41 @@ case $* in
     echo '0 upgraded, 55 newly installed, 0 to remove and 3 not upgraded.'
     echo 'Need to get 60.5 MB of archives.'
     exit 1 ;;
-*' -y --no-install-recommends nosuch') exit {status} ;;
+*' -y --no-install-recommends nosuch munge') exit {status} ;;
 esac
 """
 
 
 @pytest.mark.parametrize("status", [0, 100])
 def test_what_is_installed_is_on_one_line(status: int, top: pathlib.Path, folder: pathlib.Path) -> None:
-    """The packages are still missing after it, as this apt installs nothing."""
+    """And of a server, what becomes of it. The packages are still missing after it, as this apt installs nothing."""
     script = (top / "tools" / "setup").read_text().replace("/usr/sbin/policy-rc.d", str(folder / "policy"))
     script = script.replace('if [ "$(id -u)" = 0 ]; then "$@"; else sudo -n "$@"; fi', '"$@"')
     write_script(folder / "tools" / "setup", script)
-    (folder / "tools" / "packages").write_text("== try: nothing\nnosuch  command nosuch\n")
+    (folder / "tools" / "packages").write_text("== try: nothing\nnosuch  command nosuch\nmunge  command nosuch sh\n")
     write_script(folder / "apt-get", APT.format(status=status))
     env = {"PATH": f"{folder}:/usr/bin:/bin", "TMPDIR": str(folder)}
     got = run_tool(["sh", "tools/setup", "try"], folder, env=env)
     first, *others = got.stderr.splitlines()
     log, = folder.glob("tmp.*")
-    assert first == f"setup: installing 55 packages, 60.5 MB for nosuch (what apt says is in {log})"
+    assert first == f"setup: installing 55 packages, 60.5 MB for nosuch munge (what apt says is in {log})"
     assert got.stdout == "" and log.read_text().count("debconf") > 1 and not (folder / "policy").exists()
     assert others[-1:] == (["debconf: delaying package configuration"] if status else
-                           ["setup: these packages are still incomplete: nosuch"])
+                           ["setup: these packages are still incomplete: nosuch munge"])
+    assert status or len(others) == 2 and others[0].startswith("setup: the server of munge isn't started now")
+
+
+def test_who_is_not_root_gets_the_command(top: pathlib.Path, folder: pathlib.Path) -> None:
+    """Where `sudo` would ask for a password. Nothing is said if nothing is missing."""
+    for name in ("apt-get", "sudo"):
+        write_script(folder / name, "#!/bin/sh\nexit 1\n")
+    write_script(folder / "id", "#!/bin/sh\necho 1000\n")
+    write_script(folder / "tools" / "setup", (top / "tools" / "setup").read_text())
+    for command, line in (("nosuch", "apt-get install --no-install-recommends package\n"), ("sh", "")):
+        (folder / "tools" / "packages").write_text(f"== try: nothing\npackage  command {command}\n")
+        got = run_tool(["sh", "tools/setup", "try"], folder, env=with_path(folder))
+        assert (got.status, got.stdout) == (1 if line else 0, "") and got.stderr.endswith(line)
+        assert got.stderr.count("\n") == (2 if line else 0)
 
 
 def test_what_the_tests_need_is_in_a_package(top: pathlib.Path) -> None:
