@@ -514,8 +514,10 @@ for (const value of ["1", "all", ""]) {
   choice.dispatchEvent(new Event("change"));
   seen[`choice ${value}`] = rows();
 }
-seen.reached = [field, choice].map(each =>
-  [each.tabIndex, each.labels.length, each.labels[0].textContent.trim().split(":")[0]]);
+seen.reached = [field, choice, print, paper].map(each =>
+  [each.tabIndex, each.labels.length, each.labels[0].firstChild.textContent.trim()]);
+seen.reached.push([canvas.tabIndex, canvas.role, canvas.ariaLabel]);
+seen.title = document.title;
 seen.role = byId("found").getAttribute("role");
 const submit = new Event("submit", {cancelable: true});
 document.querySelector("form").dispatchEvent(submit);
@@ -554,7 +556,8 @@ def test_jobs_that_are_sought_and_machines_are_listed(chromium: str, tmp_path: p
     assert seen["choices"] == ["none", "all", *MACHINES] and seen["choice "] == []
     assert [each["caption"] for each in seen["choice all"]] == [f"Machine {name}" for name in MACHINES]
     assert len(seen["choice all"][2]["rows"]) == 4, "no job that skips the machine"
-    assert seen["again"] == seen[""] and seen["reached"] == [[0, 1, "Find a job"], [0, 1, "List a machine"]]
+    assert seen["again"] == seen[""] and seen["reached"] == [
+        [0, 1, label] for label in ("Find a job:", "List a machine:", "Print:", "on")] + [[0, "img", seen["title"]]]
     assert seen["role"] == "status" and seen["stays"], "Enter leaves the page as it is"
 
 

@@ -148,6 +148,9 @@ def test_a_week(page: Page) -> None:
     # Monday: the faults are at their cells. One button chooses the machines; cells are mended, and a row left out.
     page.wait(lambda: page.one("#suggest").is_displayed())
     assert "S\u00e4ge" in page.text("#suggest") and "Menge" not in page.text("#suggest")
+    for sheet in ("Stammdaten", "KW 49"):
+        Select(page.one("#sheet")).select_by_visible_text(sheet)
+        page.wait(lambda: page.one("#suggest").is_displayed() == (sheet == "KW 49"))
     page.shot("faults")
     page.click("#suggest")
     page.wait(lambda: len(page.all("#faults li")) == 3)
@@ -260,10 +263,14 @@ def test_a_search_is_ended_and_what_goes_wrong_is_shown(page: Page) -> None:
     page.wait(lambda: "60 jobs" in page.text("#read"))
     Select(page.one("#seconds")).select_by_value("600")
     page.click("#plan")
-    page.wait(lambda: "so far, no order is below" in page.text("#progress"))
+    page.wait(lambda: "so far, no order is below" in page.text("#progress")
+              and 0 < page.one("#bar").get_property("value") < 0.1)
     page.shot("progress")
     page.click("#end")
     page.wait(lambda: len(page.all("#order td.name")) > 10 and page.one("#plan").is_enabled())
+    assert page.browser.switch_to.active_element.get_attribute("id") == "plan", "the next Enter plans again"
+    page.drop("large.csv", b"," * 6_000_001)
+    page.wait(lambda: "6 MB" in page.text("#message") and len(page.all("#order td.name")) > 10)
     page.paste("job;saw\n")
     page.wait(lambda: page.text("#message") or page.text("#faults"))
     page.browser.execute_script("sessionStorage.setItem('token', 'wrong'); location.reload()")
@@ -293,13 +300,11 @@ def test_what_the_page_asks_and_keeps(page: Page) -> None:
     def asked(path: str) -> Any:
         return run("return (noted.filter(each => each[1] === arguments[0]).at(-1) || [])[2]", path)
 
-    def press(key: str) -> None:
-        run("arguments[0].click()", page.key(key))
-
     def change(selector: str, value: str) -> None:
         run("arguments[0].value = arguments[1]; arguments[0].dispatchEvent(new Event('change', {bubbles: true}))",
             page.one(selector), value)
 
+    press = page.press
     page.open()
     run(NOTE)
     # A file is dropped, another one chosen, and chosen again when it has changed. An option holds for the next request.
@@ -311,7 +316,7 @@ def test_what_the_page_asks_and_keeps(page: Page) -> None:
     page.wait(lambda: page.text("#read").startswith("chosen.csv: 1 jobs"))
     page.drop("chosen.csv", TABLE.encode())
     page.wait(lambda: "12 jobs" in page.text("#read"))
-    for name, value, due in (("unit", "h", "h"), ("decimal", ",", ","), ("decimals", "0", 0), ("unit", "min", "min")):
+    for name, value, due in (("unit", "min", "min"), ("decimal", ",", ","), ("decimals", "0", 0)):
         change(f"#{name}", value)
         page.wait(lambda: asked("/api/read")["options"][name] == due and "12 jobs" in page.text("#read"))
     # The table: machines are chosen and renamed, and a row is added. A field takes what is pasted into it.
@@ -349,7 +354,7 @@ def test_what_the_page_asks_and_keeps(page: Page) -> None:
     for title, begin in (("one", "2026-11-30T06:00"), ("two", "2026-12-07T06:00")):
         change("#title", title)
         change("#begin", begin)
-        page.wait(lambda: now_begins(page).startswith(begin[:10]))
+        page.wait(lambda: now_begins(page).startswith(begin[:10]) and asked("/api/plan")["title"] == title)
         page.click("#keep")
     page.wait(lambda: len(page.all("#plans tr")) == 3 and len(asked("/api/plan")["kept"]) == 2)
     page.click("#plans tr:nth-child(2) button")
@@ -360,8 +365,11 @@ def test_what_the_page_asks_and_keeps(page: Page) -> None:
     for name, value in (("shifts", "06:00-14:00"), ("days", "mon-sat"), ("closed", "2026-12-24")):
         change(f"#{name}", value)
         page.wait(lambda: asked("/api/plan")["calendar"][name] == value)
-    # A place that no job can have is put back.
-    before, place = page.order(), f"{page.order()[4]}:place"
+    # A job that is renamed keeps its place, and a place that no job can have is put back.
+    before = [each.replace("J12", "K12") for each in run("return doc.order")]
+    page.write(page.key("13,1"), "K12")
+    page.wait(lambda: page.order() == before)
+    place = f"{before[4]}:place"
     for text in ("0", "14", "1.5", "-"):
         page.write(page.key(place), text)
         page.wait(lambda: page.key(place).get_attribute("value") == "5")
@@ -393,6 +401,12 @@ def test_what_the_page_asks_and_keeps(page: Page) -> None:
     assert page.text("#message") == ""
     for name in names:
         page.server.answer(f"/api/search/{name}", method="DELETE")
+    # The rest is planned from the day on that is written, with the machines that are down then.
+    change("#now", "2026-11-30T10:00")
+    change("[data-key=drill][type=datetime-local]", "2026-11-30T11:00")
+    page.click("#rest")
+    page.wait(lambda: [asked("/api/rest")[name] for name in ("at", "down")] == [
+        "2026-11-30T10:00", {"drill": "2026-11-30T11:00"}])
     # A new table has no title of another one. What is too large isn't kept, nor what was kept before.
     run("Storage.prototype.setItem = () => { throw new Error('full'); }")
     page.paste(TABLE)
@@ -444,11 +458,14 @@ def test_in_german_on_a_phone(page: Page) -> None:
                                  {"width": 390, "height": 800, "deviceScaleFactor": 2, "mobile": True})
     try:
         page.open("de")
-        page.paste(TABLE.replace(";8;", ";x;", 1))
-        page.wait(lambda: "ist keine Zeit" in page.text("#faults"))
+        for rows, count in (("A;2;3\nA;x;1\n;2;2\nB;;\nSumme;9;9", 5), ("A;;1.000\nB;1:3;2\nC;3;#DIV/0!", 4)):
+            page.paste(f"Auftrag;S\u00e4ge;Bohren\n{rows}\n")
+            page.wait(lambda: len(page.all("#faults li")) == count)
+            assert re.findall(r"\b(?:the|is|isn't|may|has|too)\b", page.text("#faults")) == []
         page.paste(TABLE)
         page.wait(lambda: "12 Auftr\u00e4ge" in page.text("#read"))
         planned(page)
+        assert page.text("#machines th") == "Maschine"
         assert page.browser.execute_script("return document.documentElement.scrollWidth") <= 390
         assert page.all("#order button")[0].is_displayed() and "geht es nicht" in page.text("#ends") + "geht es nicht"
         page.shot("phone")
@@ -476,10 +493,13 @@ def test_each_text_of_the_page_is_there_in_german() -> None:
 
 @pytest.mark.seconds(30)
 def test_five_thousand_jobs(page: Page) -> None:
-    """Only the rows that are seen are drawn. All can be reached."""
+    """Only the rows that are seen are drawn. All can be reached, and so can a fault."""
     page.open()
-    page.drop("large.csv", ("job,saw,drill\n" + "".join(f"J{at},{at * 37 % 997 + 1},{at * 53 % 991 + 1}\n"
-                                                      for at in range(5_000))).encode())
+    rows = "".join(f"J{at},{at * 37 % 997 + 1},{at * 53 % 991 + 1}\n" for at in range(5_000))
+    page.drop("large.csv", f"job,saw,drill\n{rows}".replace("\nJ4000,445,", "\nJ4000,x,").encode())
+    page.wait(lambda: page.all("#faults button"))
+    page.all("#faults button")[0].click()
+    page.write(page.browser.switch_to.active_element, "445")
     page.wait(lambda: "5000 jobs" in page.text("#read"))
     Select(page.one("#seconds")).select_by_value("2")
     planned(page)
