@@ -156,6 +156,7 @@ def test_a_week(page: Page) -> None:
     page.wait(lambda: len(page.all("#faults li")) == 3)
     page.all("#faults button")[0].click()
     assert page.browser.switch_to.active_element.get_attribute("data-key") == "4,4"
+    assert [page.key(key).get_attribute("aria-invalid") for key in ("4,3", "4,4")] == ["false", "true"]
     page.write(page.key("4,4"), "10")
     page.wait(lambda: len(page.all("#faults li")) == 2)
     page.write(page.key("5,5"), "0")
@@ -174,6 +175,7 @@ def test_a_week(page: Page) -> None:
     page.browser.switch_to.frame(page.one("#chart"))
     assert page.one("canvas").size["width"] > 300, "the chart has its script and its style"
     page.browser.switch_to.default_content()
+    assert not page.one("#compared").is_displayed() and len(page.all("#machines tr.best")) == 1
     page.shot("plan")
     # Tuesday: the plan is kept, and a job moved, by a button, by a place, and to the front.
     page.click("#keep")
@@ -195,7 +197,8 @@ def test_a_week(page: Page) -> None:
     before = page.order(), page.text("#ends"), page.one("#shifts").get_attribute("value")
     page.browser.refresh()
     page.wait(lambda: (page.order(), page.text("#ends"), page.one("#shifts").get_attribute("value")) == before)
-    assert page.text("#plans tr:nth-child(2) td:nth-child(1)") == "Plan 1"
+    assert page.text("#plans tr.best td") == "Plan 1" and now_begins(page) == "2026-11-30 06:00"
+    assert page.one("#now").get_attribute("value") == "2026-11-30T06:00", "the rest is planned from the beginning on"
     assert page.browser.execute_script(UNNAMED, CONTROLS) == [], "controls of which nothing tells what they do"
     # From now on, with a machine that is down.
     page.browser.execute_script("arguments[0].value = '2026-11-30T07:00'", page.one("#now"))
@@ -271,8 +274,14 @@ def test_a_search_is_ended_and_what_goes_wrong_is_shown(page: Page) -> None:
     assert page.browser.switch_to.active_element.get_attribute("id") == "plan", "the next Enter plans again"
     page.drop("large.csv", b"," * 6_000_001)
     page.wait(lambda: "6 MB" in page.text("#message") and len(page.all("#order td.name")) > 10)
+    page.browser.execute_script("window.scrollTo(0, 9999)")
+    assert page.browser.execute_script("return byId('message').getBoundingClientRect().top") >= 0, "it is out of sight"
+    page.paste("job" + "".join(f";M{at}" for at in range(2, 54)) + "\nJ" + ";1:3" * 52 + "\n")
+    page.wait(lambda: len(page.all("#faults button")) == 52 and not page.one("#message").is_displayed())
+    cells = [each.text.split(":")[0] for each in page.all("#faults button")]
+    assert [cells[0], *cells[24:26], *cells[-2:]] == ["B2", "Z2", "AA2", "AZ2", "BA2"]
     page.paste("job;saw\n")
-    page.wait(lambda: page.text("#message") or page.text("#faults"))
+    page.wait(lambda: page.text("#message") or len(page.all("#faults button")) < 9 and page.text("#faults"))
     page.browser.execute_script("sessionStorage.setItem('token', 'wrong'); location.reload()")
     page.wait(lambda: "token" in page.text("#message"))
     assert [("403" in each or "422" in each) for each in page.logged()].count(False) == 0
@@ -328,6 +337,7 @@ def test_what_the_page_asks_and_keeps(page: Page) -> None:
     page.wait(lambda: "2 machines (band, drill)" in page.text("#read"))
     page.click("#add")
     page.wait(lambda: "13 jobs" in page.text("#read"))
+    assert page.browser.switch_to.active_element.get_attribute("data-key") == "14,1", "what one writes next"
     assert [line for line, _ in asked("/api/read")["rows"]] == [*range(1, 15)]
     count = run("return noted.length")
     run("""const data = new DataTransfer();
@@ -408,10 +418,12 @@ def test_what_the_page_asks_and_keeps(page: Page) -> None:
     page.wait(lambda: [asked("/api/rest")[name] for name in ("at", "down")] == [
         "2026-11-30T10:00", {"drill": "2026-11-30T11:00"}])
     # A new table has no title of another one. What is too large isn't kept, nor what was kept before.
+    change("#decimal", ",")
     run("Storage.prototype.setItem = () => { throw new Error('full'); }")
     page.paste(TABLE)
     page.wait(lambda: "too large to survive" in page.text("#read"))
-    assert run("return [sessionStorage.getItem('document'), document.getElementById('title').value]") == [None, ""]
+    assert run("return [sessionStorage.getItem('document'), byId('title').value, byId('decimal').value]") == [
+        None, "", ""]
     page.browser.refresh()
     Select(page.one("#language")).select_by_value("de")
     page.wait(lambda: page.text("h1") == "Flie\u00dffertigung planen" and page.text("#read") == "")
@@ -465,7 +477,8 @@ def test_in_german_on_a_phone(page: Page) -> None:
         page.paste(TABLE)
         page.wait(lambda: "12 Auftr\u00e4ge" in page.text("#read"))
         planned(page)
-        assert page.text("#machines th") == "Maschine"
+        assert page.text("#machines th") == "Maschine" and page.browser.title == page.text("h1")
+        assert page.one("#language").get_attribute("aria-label") == "Sprache"
         assert page.browser.execute_script("return document.documentElement.scrollWidth") <= 390
         assert page.all("#order button")[0].is_displayed() and "geht es nicht" in page.text("#ends") + "geht es nicht"
         page.shot("phone")

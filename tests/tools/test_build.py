@@ -63,8 +63,8 @@ CALLED = ["tools/build", "tools/dist", "tools/library", "tools/setup", "tools/si
 
 
 def calls_of(words: list[str], top: pathlib.Path, folder: pathlib.Path, fails: int = 0,
-             **env: str) -> tuple[int, list[str]]:
-    """The status of a script or of `make`, and what it calls."""
+             **env: str) -> tuple[Done, list[str]]:
+    """What a script or `make` says, and what it calls."""
     for name in ("lib/out", "crates/pfs/out", "crates/pfs_c/out"):
         (folder / name).mkdir(parents=True, exist_ok=True)
     for name in ("crates/pfs/stdin", "crates/pfs_c/out/libpfs_c.a", "crates.txt", "notes"):
@@ -75,20 +75,18 @@ def calls_of(words: list[str], top: pathlib.Path, folder: pathlib.Path, fails: i
         write_script(folder / name, (top / name).read_text().replace("/usr/bin/python3", "python3"))
     env |= {"FAILS": str(fails), "NOTES": f"{folder}/notes"}
     got = run_tool(words, folder, env=with_path(folder / "bin") | env)
-    return got.status, (folder / "notes").read_text().splitlines()
+    return got, (folder / "notes").read_text().splitlines()
 
 
 @pytest.mark.parametrize(("script", "steps"), [("tools/test", 4), ("tools/try", 2), (".ci/run", 4),
                                                ("tools/hooks/pre-commit", 1)])
 def test_a_script_ends_where_a_step_fails(script: str, steps: int, top: pathlib.Path, folder: pathlib.Path) -> None:
+    """In a hook the tests' own git works as outside of the commit, and not on this repository."""
+    git = {"GIT_DIR": "nowhere"} if "hooks" in script else {}
     for fails in range(steps + 1):
-        status, calls = calls_of([script], top, folder, fails)
-        assert (status, len(calls)) == (7 if fails else 0, fails or steps), calls
-
-
-def test_the_hook_checks_as_outside_of_the_commit(top: pathlib.Path, folder: pathlib.Path) -> None:
-    """Else the git of the tests would work on the repository itself."""
-    assert calls_of(["tools/hooks/pre-commit"], top, folder, GIT_DIR="nowhere") == (0, ["make|-s|check"])
+        got, calls = calls_of([script], top, folder, fails, **git)
+        assert (got.status, len(calls)) == (7 if fails else 0, fails or steps) and "nowhere" not in calls[0], calls
+        assert script != "tools/test" or got.stdout.count(": failed with status 7\n") == bool(fails), got.stdout
 
 
 # Where `make` has a variable, it is another one than the default.
@@ -101,8 +99,8 @@ def test_a_goal_of_make_calls_its_script(goal: str, last: str, top: pathlib.Path
     """Also where there is a folder or a file of its name."""
     for name in ("docs", "run", "check", "dist", "wheel"):
         (folder / name).mkdir()
-    status, calls = calls_of(["/usr/bin/make", *goal.split()], top, folder)
-    assert status == 0 and calls[-1:] == [last], calls
+    got, calls = calls_of(["/usr/bin/make", *goal.split()], top, folder)
+    assert got.status == 0 and calls[-1:] == [last], calls
 
 
 def test_the_list_of_goals_is_whole(top: pathlib.Path) -> None:
@@ -117,8 +115,8 @@ def test_the_library_is_made_by_the_compiler_that_is_named(top: pathlib.Path, fo
         (folder / "lib" / "out").mkdir(parents=True, exist_ok=True)
         for name in ("libpfs.a", "libpfs.so.1"):
             (folder / "lib" / "out" / name).write_text("old\n")
-        status, calls = calls_of(["tools/library"], top, folder, fails, CC="my-cc", CFLAGS="-g -Og")
-        assert status == (7 if fails else 0), calls
+        got, calls = calls_of(["tools/library"], top, folder, fails, CC="my-cc", CFLAGS="-g -Og")
+        assert got.status == (7 if fails else 0), calls
         assert {path.name: path.read_text() for path in (folder / "lib" / "out").iterdir()} == dict.fromkeys(
             ("libpfs.a", "libpfs.so.1"), f"{due}\n")
     assert [call.count("|-g|-Og|") for call in calls if call.startswith("my-cc|")] == [1, 1, 0]
@@ -184,6 +182,7 @@ def test_who_is_not_root_gets_the_command(top: pathlib.Path, folder: pathlib.Pat
         got = run_tool(["sh", "tools/setup", "try"], folder, env=with_path(folder))
         assert (got.status, got.stdout) == (1 if line else 0, "") and got.stderr.endswith(line)
         assert got.stderr.count("\n") == (2 if line else 0)
+    assert run_tool(["sh", "tools/setup", "--missing", "all", "try"], folder, env=with_path(folder)).status == 2
 
 
 def test_what_the_tests_need_is_in_a_package(top: pathlib.Path) -> None:
