@@ -16,6 +16,8 @@ import pytest
 from pfs import _drawing
 from support.browser import PEN, looked_at, printed, with_script
 from support.colours import hexadecimal
+from support.needs import tool
+from support.tools import output_of
 
 IDLE = "#d9d9d9"
 TIMES = [[30, 25, 0], [20, 50, 15], [40, 10, 20]]
@@ -432,7 +434,7 @@ def test_the_policy_keeps_other_scripts_and_styles_out(chromium: str, tmp_path: 
 # The bars of the first job are long, and those of the others short or very short.
 LENGTHS = [[400, 300, 500], [40, 12, 40], [40, 40, 0], [12, 1, 40], [40, 40, 40]]
 NAMES = ["table", "chair, oiled and polished", "shelf of oak", "box with a lid", "bench without a back"]
-SHORT_NAMES = ["table", "a", "shelf of oak", "shelf", "box"]
+SHORT_NAMES = ["table", "A", "Shelf of oak", "Shelf", "bOX"]
 ORDER = [0, 2, 1, 4, 3]
 
 
@@ -509,13 +511,15 @@ function type(text) {
 const seen = {choices: [...choice.options].map(option => option.textContent)};
 for (const text of TEXTS) seen[text] = type(text);
 seen.again = type("");
-for (const value of ["1", "all", ""]) {
-  choice.value = value;
+for (const value of ["drill", "all", "none"]) {
+  choice.selectedIndex = seen.choices.indexOf(value);
   choice.dispatchEvent(new Event("change"));
   seen[`choice ${value}`] = rows();
 }
-seen.reached = [field, choice].map(each =>
-  [each.tabIndex, each.labels.length, each.labels[0].textContent.trim().split(":")[0]]);
+seen.reached = [field, choice, print, paper].map(each =>
+  [each.tabIndex, each.labels.length, each.labels[0].firstChild.textContent.trim()]);
+seen.reached.push([canvas.tabIndex, canvas.role, canvas.ariaLabel]);
+seen.title = document.title;
 seen.role = byId("found").getAttribute("role");
 const submit = new Event("submit", {cancelable: true});
 document.querySelector("form").dispatchEvent(submit);
@@ -547,14 +551,15 @@ def test_jobs_that_are_sought_and_machines_are_listed(chromium: str, tmp_path: p
                  for machine, start, end in zip(MACHINES, made.starts[place], made.ends[place]) if start < end]}
             for place in places], text
         assert got["strong"] == [not places or place in places for place in range(5)], text
-    [listed] = seen["choice 1"]
+    [listed] = seen["choice drill"]
     assert listed == {"caption": "Machine drill", "heads": heads("place", "job", "start", "end"), "rows": [
         [str(place), SHORT_NAMES[job], str(start), str(end)]
         for place, (job, start, end) in enumerate(zip(ORDER, made.starts[:, 1], made.ends[:, 1]), 1)]}
-    assert seen["choices"] == ["none", "all", *MACHINES] and seen["choice "] == []
+    assert seen["choices"] == ["none", "all", *MACHINES] and seen["choice none"] == []
     assert [each["caption"] for each in seen["choice all"]] == [f"Machine {name}" for name in MACHINES]
     assert len(seen["choice all"][2]["rows"]) == 4, "no job that skips the machine"
-    assert seen["again"] == seen[""] and seen["reached"] == [[0, 1, "Find a job"], [0, 1, "List a machine"]]
+    assert seen["again"] == seen[""] and seen["reached"] == [
+        [0, 1, label] for label in ("Find a job:", "List a machine:", "Print:", "on")] + [[0, "img", seen["title"]]]
     assert seen["role"] == "status" and seen["stays"], "Enter leaves the page as it is"
 
 
@@ -594,7 +599,7 @@ def generated(jobs: int, machines: int, name: str = "") -> pfs.Schedule:
 @pytest.mark.parametrize(("what", "chosen", "sizes"), [
     ((4, 4), {}, [A4]), ((500, 20), {}, [A4]), ((30, 200), {}, [A4]),
     ((20, 5, "Auftrag"), {}, [A4]), ((500, 5, "Auftrag"), {}, [A4] * 3),
-    ((), {}, [A4]), ((), {"print": "days"}, [A4] * 6), ((), {"print": "days", "paper": "A3"}, [A3] * 6),
+    ((), {"paper": "A3"}, [A3]), ((), {"print": "days"}, [A4] * 6), ((), {"print": "days", "paper": "A3"}, [A3] * 6),
     ((), {"listed": "all"}, [A4, UPRIGHT, UPRIGHT, UPRIGHT])])
 def test_what_is_printed(chromium: str, tmp_path: pathlib.Path, what: tuple[Any, ...], chosen: dict[str, str],
                          sizes: list[tuple[int, int]]) -> None:
@@ -607,6 +612,9 @@ def test_what_is_printed(chromium: str, tmp_path: pathlib.Path, what: tuple[Any,
     assert sizes_of(pdfs[0]) == [pytest.approx(size, abs=2) for size in sizes]
     sums = {hashlib.sha256(re.sub(rb"/(CreationDate|ModDate) \(.*?\)", b"", pdf)).hexdigest() for pdf in pdfs}
     assert len(sums) == 1, "the window's width is seen on paper"
+    text = output_of([tool("pdftotext"), "page.pdf", "-"], tmp_path)
+    assert not re.search("Find a job|Point at|Places of", text) and made.instance.name in text
+    assert what or ("idle" in text) == ("print" not in chosen), "the chart of the window beside the days, or none"
 
 
 def test_the_sheet_of_a_day_has_its_jobs(chromium: str, tmp_path: pathlib.Path) -> None:
@@ -681,9 +689,12 @@ def test_sheets_have_their_days_and_their_paper_and_a_tip_stays_in_the_window(ch
       endPrint();
     }
     draw = own;
+    // The last row is at the lower edge of the window.
+    canvas.style.marginTop = `${window.innerHeight - canvas.getBoundingClientRect().bottom + FOOT - 5}px`;
     send("pointermove", PointerEvent, width - RIGHT - 2, yOf(machines - 1) + ROW / 2, {pointerId: 1});
-    const {right} = tip.getBoundingClientRect();
-    tell({...seen, tip: tip.textContent, isInside: right <= window.innerWidth,
+    const {right, bottom, left: x, top: y} = tip.getBoundingClientRect();
+    const isInside = right <= window.innerWidth && bottom <= window.innerHeight && bottom - y > 4 * 14;
+    tell({...seen, tip: tip.textContent, isInside: isInside && document.elementFromPoint(x + 9, y + 9) !== tip,
           isOpen: places.open});
     """
     made = plan([f"{name} {name * 20}" for name in NAMES])

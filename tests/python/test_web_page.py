@@ -30,6 +30,11 @@ MONDAY = [["Plan KW 49"], ["Auftrag", "Menge", "S\u00e4ge [min]", "Bohren [min]"
           [SCRIPT, 1, 25, 35, 20], ["A-6", 2, 15, 45, 30], ["Summe", None, 140, 125, 165]]
 
 
+CONTROLS = "input, select, textarea, button"
+UNNAMED = """return [...document.querySelectorAll(arguments[0])].filter(each =>
+    !each.ariaLabel && !each.textContent.trim() && !each.labels?.length).map(each => each.outerHTML)"""
+
+
 class Page:
     """The page in a browser."""
 
@@ -137,10 +142,15 @@ def planned(page: Page) -> None:
 
 def test_a_week(page: Page) -> None:
     page.open()
+    # Before there is a table, nothing can be done with it.
+    assert [each.get_attribute("id") for each in page.all(CONTROLS) if each.is_displayed()] == ["language", "file"]
     page.drop("week.xlsx", monday())
     # Monday: the faults are at their cells. One button chooses the machines; cells are mended, and a row left out.
     page.wait(lambda: page.one("#suggest").is_displayed())
     assert "S\u00e4ge" in page.text("#suggest") and "Menge" not in page.text("#suggest")
+    for sheet in ("Stammdaten", "KW 49"):
+        Select(page.one("#sheet")).select_by_visible_text(sheet)
+        page.wait(lambda: page.one("#suggest").is_displayed() == (sheet == "KW 49"))
     page.shot("faults")
     page.click("#suggest")
     page.wait(lambda: len(page.all("#faults li")) == 4)
@@ -148,6 +158,7 @@ def test_a_week(page: Page) -> None:
     page.wait(lambda: len(page.all("#faults li")) == 3)
     page.all("#faults button")[0].click()
     assert page.browser.switch_to.active_element.get_attribute("data-key") == "4,4"
+    assert [page.key(key).get_attribute("aria-invalid") for key in ("4,3", "4,4")] == ["false", "true"]
     page.write(page.key("4,4"), "10")
     page.wait(lambda: len(page.all("#faults li")) == 2)
     page.write(page.key("5,5"), "0")
@@ -166,6 +177,7 @@ def test_a_week(page: Page) -> None:
     page.browser.switch_to.frame(page.one("#chart"))
     assert page.one("canvas").size["width"] > 300, "the chart has its script and its style"
     page.browser.switch_to.default_content()
+    assert not page.one("#compared").is_displayed() and len(page.all("#machines tr.best")) == 1
     page.shot("plan")
     # Tuesday: the plan is kept, and a job moved, by a button, by a place, and to the front.
     page.click("#keep")
@@ -187,7 +199,9 @@ def test_a_week(page: Page) -> None:
     before = page.order(), page.text("#ends"), page.one("#shifts").get_attribute("value")
     page.browser.refresh()
     page.wait(lambda: (page.order(), page.text("#ends"), page.one("#shifts").get_attribute("value")) == before)
-    assert page.text("#plans tr:nth-child(2) td:nth-child(1)") == "Plan 1"
+    assert page.text("#plans tr.best td") == "Plan 1" and now_begins(page) == "2026-11-30 06:00"
+    assert page.one("#now").get_attribute("value") == "2026-11-30T06:00", "the rest is planned from the beginning on"
+    assert page.browser.execute_script(UNNAMED, CONTROLS) == [], "controls of which nothing tells what they do"
     # From now on, with a machine that is down.
     page.browser.execute_script("arguments[0].value = '2026-11-30T07:00'", page.one("#now"))
     page.browser.execute_script("arguments[0].value = '2026-11-30T07:45'", page.all("#machines input")[1])
@@ -199,7 +213,7 @@ def test_a_week(page: Page) -> None:
     # Downloads.
     page.write(page.one("#title"), "../KW 49")
     for kind, start in (("csv", b"\xef\xbb\xbfjob;machine"), ("xlsx", b"PK"), ("zip", b"PK"), ("html", b"<!DOCTYPE"),
-                        ("txt", b"")):
+                        ("pdf", b"%PDF"), ("txt", b"")):
         path = page.downloads / f"---KW 49.{kind}"
         page.click(f"[data-kind={kind}]")
         page.wait(lambda: path.exists() and path.stat().st_size, f"{path} in {[*page.downloads.iterdir()]}")
@@ -254,12 +268,22 @@ def test_a_search_is_ended_and_what_goes_wrong_is_shown(page: Page) -> None:
     page.wait(lambda: "60 jobs" in page.text("#read"))
     Select(page.one("#seconds")).select_by_value("600")
     page.click("#plan")
-    page.wait(lambda: "so far, no order is below" in page.text("#progress"))
+    page.wait(lambda: "so far, no order is below" in page.text("#progress")
+              and 0 < page.one("#bar").get_property("value") < 0.1)
     page.shot("progress")
     page.click("#end")
     page.wait(lambda: len(page.all("#order td.name")) > 10 and page.one("#plan").is_enabled())
+    assert page.browser.switch_to.active_element.get_attribute("id") == "plan", "the next Enter plans again"
+    page.drop("large.csv", b"," * 6_000_001)
+    page.wait(lambda: "6 MB" in page.text("#message") and len(page.all("#order td.name")) > 10)
+    page.browser.execute_script("window.scrollTo(0, 9999)")
+    assert page.browser.execute_script("return byId('message').getBoundingClientRect().top") >= 0, "it is out of sight"
+    page.paste("job" + "".join(f";M{at}" for at in range(2, 54)) + "\nJ" + ";1:3" * 52 + "\n")
+    page.wait(lambda: len(page.all("#faults button")) == 52 and not page.one("#message").is_displayed())
+    cells = [each.text.split(":")[0] for each in page.all("#faults button")]
+    assert [cells[0], *cells[24:26], *cells[-2:]] == ["B2", "Z2", "AA2", "AZ2", "BA2"]
     page.paste("job;saw\n")
-    page.wait(lambda: page.text("#message") or page.text("#faults"))
+    page.wait(lambda: page.text("#message") or len(page.all("#faults button")) < 9 and page.text("#faults"))
     page.browser.execute_script("sessionStorage.setItem('token', 'wrong'); location.reload()")
     page.wait(lambda: "token" in page.text("#message"))
     assert [("403" in each or "422" in each) for each in page.logged()].count(False) == 0
@@ -287,17 +311,25 @@ def test_what_the_page_asks_and_keeps(page: Page) -> None:
     def asked(path: str) -> Any:
         return run("return (noted.filter(each => each[1] === arguments[0]).at(-1) || [])[2]", path)
 
-    def press(key: str) -> None:
-        run("arguments[0].click()", page.key(key))
-
     def change(selector: str, value: str) -> None:
         run("arguments[0].value = arguments[1]; arguments[0].dispatchEvent(new Event('change', {bubbles: true}))",
             page.one(selector), value)
 
+    press = page.press
     page.open()
     run(NOTE)
-    page.paste(TABLE)
+    # A file is dropped, another one chosen, and chosen again when it has changed. An option holds for the next request.
+    run(DRAG, "dragover")
+    assert page.one("#drop").get_attribute("class") == "over"
+    run(DRAG, "drop")
+    page.wait(lambda: page.text("#read").startswith("dropped.csv: 2 jobs") and not page.all(".over"))
+    page.drop("chosen.csv", b"job,saw\nJ1,1\n")
+    page.wait(lambda: page.text("#read").startswith("chosen.csv: 1 jobs"))
+    page.drop("chosen.csv", TABLE.encode())
     page.wait(lambda: "12 jobs" in page.text("#read"))
+    for name, value, due in (("unit", "min", "min"), ("decimal", ",", ","), ("decimals", "0", 0)):
+        change(f"#{name}", value)
+        page.wait(lambda: asked("/api/read")["options"][name] == due and "12 jobs" in page.text("#read"))
     # The table: machines are chosen and renamed, and a row is added. A field takes what is pasted into it.
     press("3,machine")
     page.wait(lambda: "1 machines (saw)" in page.text("#read") and asked("/api/read")["options"]["machines"] == ["saw"])
@@ -307,6 +339,7 @@ def test_what_the_page_asks_and_keeps(page: Page) -> None:
     page.wait(lambda: "2 machines (band, drill)" in page.text("#read"))
     page.click("#add")
     page.wait(lambda: "13 jobs" in page.text("#read"))
+    assert page.browser.switch_to.active_element.get_attribute("data-key") == "14,1", "what one writes next"
     assert [line for line, _ in asked("/api/read")["rows"]] == [*range(1, 15)]
     count = run("return noted.length")
     run("""const data = new DataTransfer();
@@ -333,7 +366,7 @@ def test_what_the_page_asks_and_keeps(page: Page) -> None:
     for title, begin in (("one", "2026-11-30T06:00"), ("two", "2026-12-07T06:00")):
         change("#title", title)
         change("#begin", begin)
-        page.wait(lambda: now_begins(page).startswith(begin[:10]))
+        page.wait(lambda: now_begins(page).startswith(begin[:10]) and asked("/api/plan")["title"] == title)
         page.click("#keep")
     page.wait(lambda: len(page.all("#plans tr")) == 3 and len(asked("/api/plan")["kept"]) == 2)
     page.click("#plans tr:nth-child(2) button")
@@ -341,6 +374,18 @@ def test_what_the_page_asks_and_keeps(page: Page) -> None:
     press("1,forget")
     page.wait(lambda: len(page.all("#plans tr")) == 2)
     assert page.text("#plans tr:nth-child(2) td") == "one"
+    for name, value in (("shifts", "06:00-14:00"), ("days", "mon-sat"), ("closed", "2026-12-24")):
+        change(f"#{name}", value)
+        page.wait(lambda: asked("/api/plan")["calendar"][name] == value)
+    # A job that is renamed keeps its place, and a place that no job can have is put back.
+    before = [each.replace("J12", "K12") for each in run("return doc.order")]
+    page.write(page.key("13,1"), "K12")
+    page.wait(lambda: page.order() == before)
+    place = f"{before[4]}:place"
+    for text in ("0", "14", "1.5", "-"):
+        page.write(page.key(place), text)
+        page.wait(lambda: page.key(place).get_attribute("value") == "5")
+    assert page.order() == before
     # The third job is held with those before it. A response that comes late replaces no later one.
     press(f"{page.order()[2]}:hold")
     page.wait(lambda: len(page.all("#order tr.held")) == 3)
@@ -368,19 +413,56 @@ def test_what_the_page_asks_and_keeps(page: Page) -> None:
     assert page.text("#message") == ""
     for name in names:
         page.server.answer(f"/api/search/{name}", method="DELETE")
+    # The rest is planned from the day on that is written, with the machines that are down then.
+    change("#now", "2026-11-30T10:00")
+    change("[data-key=drill][type=datetime-local]", "2026-11-30T11:00")
+    page.click("#rest")
+    page.wait(lambda: [asked("/api/rest")[name] for name in ("at", "down")] == [
+        "2026-11-30T10:00", {"drill": "2026-11-30T11:00"}])
     # A new table has no title of another one. What is too large isn't kept, nor what was kept before.
+    change("#decimal", ",")
     run("Storage.prototype.setItem = () => { throw new Error('full'); }")
     page.paste(TABLE)
     page.wait(lambda: "too large to survive" in page.text("#read"))
-    assert run("return [sessionStorage.getItem('document'), document.getElementById('title').value]") == [None, ""]
+    assert run("return [sessionStorage.getItem('document'), byId('title').value, byId('decimal').value]") == [
+        None, "", ""]
     page.browser.refresh()
     Select(page.one("#language")).select_by_value("de")
     page.wait(lambda: page.text("h1") == "Flie\u00dffertigung planen" and page.text("#read") == "")
 
 
+# Drags a file over the page, or drops it.
+DRAG = """const dataTransfer = new DataTransfer();
+dataTransfer.items.add(new File(["job,saw\\nJ1,1\\nJ2,2\\n"], "dropped.csv"));
+window.dispatchEvent(new DragEvent(arguments[0], {dataTransfer, cancelable: true}));"""
+
+
 def now_begins(page: Page) -> str:
     """When the first job of the plan that is shown begins."""
     return str(page.browser.execute_script("return now.jobs[0][1]"))
+
+
+def test_the_page_has_the_language_of_the_browser(page: Page) -> None:
+    """At first, also where that is of a country. What is chosen stays."""
+    agent = page.browser.execute_script("return navigator.userAgent")
+
+    def prefer(language: str) -> None:
+        page.browser.execute_cdp_cmd("Network.setUserAgentOverride", {"userAgent": agent, "acceptLanguage": language})
+
+    def languages() -> tuple[str | None, Any]:
+        return page.one("html").get_attribute("lang"), page.one("#language").get_property("value")
+
+    page.open()
+    try:
+        for language, due in (("de", "de"), ("de-AT", "de"), ("en-GB", "en"), ("nl", "en")):
+            prefer(language)
+            page.browser.execute_script("localStorage.removeItem('language')")
+            page.browser.refresh()
+            page.wait(lambda: languages() == (due, due))
+        Select(page.one("#language")).select_by_value("de")
+        page.wait(lambda: languages() == ("de", "de"))
+    finally:
+        prefer("en")
 
 
 def test_in_german_on_a_phone(page: Page) -> None:
@@ -390,11 +472,15 @@ def test_in_german_on_a_phone(page: Page) -> None:
                                  {"width": 390, "height": 800, "deviceScaleFactor": 2, "mobile": True})
     try:
         page.open("de")
-        page.paste(TABLE.replace(";8;", ";x;", 1))
-        page.wait(lambda: "ist keine Zeit" in page.text("#faults"))
+        for rows, count in (("A;2;3\nA;x;1\n;2;2\nB;;\nSumme;9;9", 5), ("A;;1.000\nB;1:3;2\nC;3;#DIV/0!", 4)):
+            page.paste(f"Auftrag;S\u00e4ge;Bohren\n{rows}\n")
+            page.wait(lambda: len(page.all("#faults li")) == count)
+            assert re.findall(r"\b(?:the|is|isn't|may|has|too)\b", page.text("#faults")) == []
         page.paste(TABLE)
         page.wait(lambda: "12 Auftr\u00e4ge" in page.text("#read"))
         planned(page)
+        assert page.text("#machines th") == "Maschine" and page.browser.title == page.text("h1")
+        assert page.one("#language").get_attribute("aria-label") == "Sprache"
         assert page.browser.execute_script("return document.documentElement.scrollWidth") <= 390
         assert page.all("#order button")[0].is_displayed() and "geht es nicht" in page.text("#ends") + "geht es nicht"
         page.shot("phone")
@@ -422,10 +508,13 @@ def test_each_text_of_the_page_is_there_in_german() -> None:
 
 @pytest.mark.seconds(30)
 def test_five_thousand_jobs(page: Page) -> None:
-    """Only the rows that are seen are drawn. All can be reached."""
+    """Only the rows that are seen are drawn. All can be reached, and so can a fault."""
     page.open()
-    page.drop("large.csv", ("job,saw,drill\n" + "".join(f"J{at},{at * 37 % 997 + 1},{at * 53 % 991 + 1}\n"
-                                                      for at in range(5_000))).encode())
+    rows = "".join(f"J{at},{at * 37 % 997 + 1},{at * 53 % 991 + 1}\n" for at in range(5_000))
+    page.drop("large.csv", f"job,saw,drill\n{rows}".replace("\nJ4000,445,", "\nJ4000,x,").encode())
+    page.wait(lambda: page.all("#faults button"))
+    page.all("#faults button")[0].click()
+    page.write(page.browser.switch_to.active_element, "445")
     page.wait(lambda: "5000 jobs" in page.text("#read"))
     Select(page.one("#seconds")).select_by_value("2")
     planned(page)

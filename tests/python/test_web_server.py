@@ -301,12 +301,19 @@ def test_the_unit_is_one_that_systemd_reads_and_has_few_rights(tmp_path: pathlib
     if analyze is None:
         pytest.skip("systemd isn't installed")
     unit = tmp_path / "pfs-web.service"
-    text = re.sub("^#.*", "", (TOP / "debian" / "pfs-web.service").read_text(), flags=re.MULTILINE)
+    whole = (TOP / "debian" / "pfs-web.service").read_text()
+    text = re.sub("^#.*", "", whole, flags=re.MULTILINE)
     unit.write_text(text.replace("/usr/bin/pfs-web", "/bin/true"))
     done = run_tool([analyze, "verify", "--man=no", unit], tmp_path)
     assert "pfs-web" not in done.stderr, done.stderr
     done = run_tool([analyze, "security", "--no-pager", "--offline=true", "--threshold=16", unit], tmp_path)
     assert done.status == 0, done.stdout
+    # systemd splits $NAME at blanks, but not ${NAME}.
+    options, = re.findall(r'PFS_WEB_OPTIONS=\\"(.*)\\"', whole)
+    command, = re.findall("^ExecStart=(.*)", text, re.MULTILINE)
+    words = re.sub(r"\$\{(\w+)\}", r"<\1>", command.replace("$PFS_WEB_OPTIONS", options)).split()[1:]
+    got, (name,) = web.words().parse_args(words), re.findall("^LoadCredential=(.*):", text, re.MULTILINE)
+    assert (got.host, got.name, got.token_file) == ("0.0.0.0", ["planning.example"], f"<CREDENTIALS_DIRECTORY>/{name}")
     files = [set(re.findall(r"/etc/(?:[\w/.-]*token|default/pfs-web)\b", each))
              for each in (text, (TOP / "docs" / "INSTALL.md").read_text())]
     assert files[0] == files[1] and len(files[0]) == 2

@@ -1,5 +1,5 @@
-"""tools/build, with a program in place of `rt`: which crates it builds, and what it says of them. And tools/setup: the
-packages of its lists, and what it says when it installs them."""
+"""tools/build, with a program in place of `rt`: which crates it builds, and what it says of them. What other scripts
+and the goals of `make` call. And tools/setup: the packages of its lists, and what it says when it installs them."""
 import os
 import pathlib
 import re
@@ -53,6 +53,79 @@ def test_each_crate_is_built_once_after_those_below_it(targets: str, status: int
     assert ", ".join((folder / "notes").read_text().splitlines()) == notes
 
 
+# What others call: here each call is noted, makes its files in lib/out, and fails if it is the one with this number
+
+NOTE = """#!/bin/sh
+case $0 in /*) set -- "${0##*/}" "$@" ;; *) set -- "$0" "$@" ;; esac
+(IFS='|'; echo "$*${GIT_DIR-}" >> "$NOTES")
+for word; do case $word in lib/out/*) echo made > "$word" ;; esac; done
+[ "$(grep -c . "$NOTES")" != "$FAILS" ] || exit 7
+"""
+CALLED = ["tools/build", "tools/dist", "tools/library", "tools/setup", "tools/site/build", "tools/test", "tools/try",
+          "tests/fuzz.py", "tests/mutants.py", "bin/ar", "bin/ld", "bin/make", "bin/my-cc", "bin/objcopy",
+          "bin/python3", "bin/rt"]
+
+
+def calls_of(words: list[str], top: pathlib.Path, folder: pathlib.Path, fails: int = 0,
+             **env: str) -> tuple[Done, list[str]]:
+    """What a script or `make` says, and what it calls."""
+    for name in ("lib/out", "crates/pfs/out", "crates/pfs_c/out"):
+        (folder / name).mkdir(parents=True, exist_ok=True)
+    for name in ("crates/pfs/stdin", "crates/pfs_c/out/libpfs_c.a", "crates.txt", "notes"):
+        (folder / name).write_text("")
+    for name in CALLED:
+        write_script(folder / name, NOTE)
+    for name in {"Makefile", words[0]} - {"/usr/bin/make"}:
+        write_script(folder / name, (top / name).read_text().replace("/usr/bin/python3", "python3"))
+    env |= {"FAILS": str(fails), "NOTES": f"{folder}/notes"}
+    got = run_tool(words, folder, env=with_path(folder / "bin") | env)
+    return got, (folder / "notes").read_text().splitlines()
+
+
+@pytest.mark.parametrize(("script", "steps"), [("tools/test", 4), ("tools/try", 2), (".ci/run", 4),
+                                               ("tools/hooks/pre-commit", 1)])
+def test_a_script_ends_where_a_step_fails(script: str, steps: int, top: pathlib.Path, folder: pathlib.Path) -> None:
+    """In a hook the tests' own git works as outside of the commit, and not on this repository."""
+    git = {"GIT_DIR": "nowhere"} if "hooks" in script else {}
+    for fails in range(steps + 1):
+        got, calls = calls_of([script], top, folder, fails, **git)
+        assert (got.status, len(calls)) == (7 if fails else 0, fails or steps) and "nowhere" not in calls[0], calls
+        assert script != "tools/test" or got.stdout.count(": failed with status 7\n") == bool(fails), got.stdout
+
+
+# Where `make` has a variable, it is another one than the default.
+@pytest.mark.parametrize(("goal", "last"), [
+    ("try", "tools/try"), ("run", "tools/build"), ("lib", "tools/library"), ("test", "tools/test"),
+    ("check PYTEST=python3", "python3|-n|auto|-q|-m|check"), ("fuzz MINUTES=2", "tests/fuzz.py|--seconds|120"),
+    ("mutants COUNT=7", "tests/mutants.py|7"), ("docs", "tools/site/build"),
+    ("dist DIST=a/b", "tools/dist|a/b"), ("wheel DIST=a/b", "tools/dist|wheel|a/b")])
+def test_a_goal_of_make_calls_its_script(goal: str, last: str, top: pathlib.Path, folder: pathlib.Path) -> None:
+    """Also where there is a folder or a file of its name."""
+    for name in ("docs", "run", "check", "dist", "wheel"):
+        (folder / name).mkdir()
+    got, calls = calls_of(["/usr/bin/make", *goal.split()], top, folder)
+    assert got.status == 0 and calls[-1:] == [last], calls
+
+
+def test_the_list_of_goals_is_whole(top: pathlib.Path) -> None:
+    listed = re.findall(r"^make (\S+)  ", output_of(["make", "-s", "help"], top), re.MULTILINE)
+    phony = re.findall(r"^\.PHONY: (.*)", (top / "Makefile").read_text(), re.MULTILINE)
+    assert sorted(listed) == sorted(" ".join(phony).split())
+
+
+def test_the_library_is_made_by_the_compiler_that_is_named(top: pathlib.Path, folder: pathlib.Path) -> None:
+    """If a step fails, the one of before stays; and nothing else is left."""
+    for fails, due in ((0, "made"), *((step, "old") for step in range(2, 9))):
+        (folder / "lib" / "out").mkdir(parents=True, exist_ok=True)
+        for name in ("libpfs.a", "libpfs.so.1"):
+            (folder / "lib" / "out" / name).write_text("old\n")
+        got, calls = calls_of(["tools/library"], top, folder, fails, CC="my-cc", CFLAGS="-g -Og")
+        assert got.status == (7 if fails else 0), calls
+        assert {path.name: path.read_text() for path in (folder / "lib" / "out").iterdir()} == dict.fromkeys(
+            ("libpfs.a", "libpfs.so.1"), f"{due}\n")
+    assert [call.count("|-g|-Og|") for call in calls if call.startswith("my-cc|")] == [1, 1, 0]
+
+
 # Packages
 
 def test_each_list_adds_to_the_one_before(top: pathlib.Path, folder: pathlib.Path) -> None:
@@ -78,27 +151,42 @@ case $* in
     echo '0 upgraded, 55 newly installed, 0 to remove and 3 not upgraded.'
     echo 'Need to get 60.5 MB of archives.'
     exit 1 ;;
-*' -y --no-install-recommends nosuch') exit {status} ;;
+*' -y --no-install-recommends nosuch munge') exit {status} ;;
 esac
 """
 
 
 @pytest.mark.parametrize("status", [0, 100])
 def test_what_is_installed_is_on_one_line(status: int, top: pathlib.Path, folder: pathlib.Path) -> None:
-    """The packages are still missing after it, as this apt installs nothing."""
+    """And of a server, what becomes of it. The packages are still missing after it, as this apt installs nothing."""
     script = (top / "tools" / "setup").read_text().replace("/usr/sbin/policy-rc.d", str(folder / "policy"))
     script = script.replace('if [ "$(id -u)" = 0 ]; then "$@"; else sudo -n "$@"; fi', '"$@"')
     write_script(folder / "tools" / "setup", script)
-    (folder / "tools" / "packages").write_text("== try: nothing\nnosuch  command nosuch\n")
+    (folder / "tools" / "packages").write_text("== try: nothing\nnosuch  command nosuch\nmunge  command nosuch sh\n")
     write_script(folder / "apt-get", APT.format(status=status))
     env = {"PATH": f"{folder}:/usr/bin:/bin", "TMPDIR": str(folder)}
     got = run_tool(["sh", "tools/setup", "try"], folder, env=env)
     first, *others = got.stderr.splitlines()
     log, = folder.glob("tmp.*")
-    assert first == f"setup: installing 55 packages, 60.5 MB for nosuch (what apt says is in {log})"
+    assert first == f"setup: installing 55 packages, 60.5 MB for nosuch munge (what apt says is in {log})"
     assert got.stdout == "" and log.read_text().count("debconf") > 1 and not (folder / "policy").exists()
     assert others[-1:] == (["debconf: delaying package configuration"] if status else
-                           ["setup: these packages are still incomplete: nosuch"])
+                           ["setup: these packages are still incomplete: nosuch munge"])
+    assert status or len(others) == 2 and others[0].startswith("setup: the server of munge isn't started now")
+
+
+def test_who_is_not_root_gets_the_command(top: pathlib.Path, folder: pathlib.Path) -> None:
+    """Where `sudo` would ask for a password. Nothing is said if nothing is missing."""
+    for name in ("apt-get", "sudo"):
+        write_script(folder / name, "#!/bin/sh\nexit 1\n")
+    write_script(folder / "id", "#!/bin/sh\necho 1000\n")
+    write_script(folder / "tools" / "setup", (top / "tools" / "setup").read_text())
+    for command, line in (("nosuch", "apt-get install --no-install-recommends package\n"), ("sh", "")):
+        (folder / "tools" / "packages").write_text(f"== try: nothing\npackage  command {command}\n")
+        got = run_tool(["sh", "tools/setup", "try"], folder, env=with_path(folder))
+        assert (got.status, got.stdout) == (1 if line else 0, "") and got.stderr.endswith(line)
+        assert got.stderr.count("\n") == (2 if line else 0)
+    assert run_tool(["sh", "tools/setup", "--missing", "all", "try"], folder, env=with_path(folder)).status == 2
 
 
 def test_what_the_tests_need_is_in_a_package(top: pathlib.Path) -> None:

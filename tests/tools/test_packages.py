@@ -18,7 +18,7 @@ import pytest
 from support.installed import (BETWEEN, LIBRARY, OLD, PLACES, PROGRAM, SHARED, VERSION, VERSIONED, Copy,
                                assert_completions_are_found, assert_runs, assert_same_files, assert_usual_modes,
                                contents_of)
-from support.needs import require_module, tool
+from support.needs import package_of, require_module, tool
 from support.tools import TOP, imported, output_of, run_tool
 
 # so that the copy and the packages are made once
@@ -87,6 +87,7 @@ def test_made_again_all_has_the_same_bytes_and_is_signed(made: Made, tmp_path_fa
             for each in (made.folder, folder)]
     assert sums[1].pop("SHA256SUMS.sig") and sums[1].pop("mine") and kept[1].exists()
     assert sums[0] == sums[1] and "Containerfile" in sums[0]
+    assert sorted(got.stdout.split()) == sorted(f"{folder}/{name}" for name in (*sums[1], "SHA256SUMS.sig"))
     (folder / "signers").write_text(f"pfs {(folder.parent / 'key.pub').read_text()}")
     lines = ["ssh-keygen -Y verify .*$", "sha256sum --check .*$"]
     for line in lines:
@@ -271,6 +272,11 @@ def test_debians_tools_accept_the_packages(made: Made, folder: pathlib.Path) -> 
             for field in ("Version", "Maintainer", "Depends"))
         assert (version, maintainer) == (number, "A Tester <tester@example.org>")
         assert needed <= set(depends.split(", "))
+    # What a part of the package for Python needs is named too.
+    source = "".join(path.read_text() for path in (TOP / "python" / "src").rglob("*.py"))
+    control = output_of(["dpkg-deb", "--info", made.path("/python3-pfs_"), "control"], folder)
+    assert {package_of(module) for module in re.findall(r'\boptional\("(\w+)"', source)} <= set(
+        re.findall(r"[\w-]+", control))
     output_of(["dpkg-deb", "--control", made.path(f"/{LIBPFS}_"), "library"], folder)
     assert (folder / "library" / "symbols").read_text() == SYMBOLS
 
@@ -344,13 +350,15 @@ def test_a_wheel_holds_the_package_and_the_library(made: Made) -> None:
 
 
 def test_pip_replaces_a_wheel_by_one_of_a_later_commit(made: Made, folder: pathlib.Path) -> None:
-    """In a clean environment, where NumPy is the system's."""
+    """In a clean environment, where NumPy is the system's. A release in the wheel's folder stays."""
     if sys.prefix != sys.base_prefix:
         pytest.skip("an environment inside another one has no packages of the system")
     require_module("pip")
     env = {name: value for name, value in os.environ.items() if name not in ("PFS_LIBRARY", "PYTHONPATH")}
     output_of([sys.executable, "-m", "venv", "--system-site-packages", "--without-pip", "clean"], folder)
-    assert made.copy.make("wheel", f"DIST={folder}", SOURCE_DATE_EPOCH="900000000").status == 0
+    sums = folder / "SHA256SUMS"
+    sums.write_text(f"{'0' * 64}  SHA256SUMS\n")
+    assert made.copy.make("wheel", f"DIST={folder}", SOURCE_DATE_EPOCH="900000000").status == 0 and sums.exists()
     [older] = folder.glob("*.whl")
     for wheel, version in ((older, f"{VERSION}+19980709.160000"), (made.path(".whl"), BETWEEN)):
         words = ["clean/bin/python3", "-m", "pip", "--disable-pip-version-check", "install", "-q", "--no-index"]

@@ -261,7 +261,7 @@ const order = listIn(byId("order"), at => {
 });
 async function move(from, to, key) {
   if (!Number.isInteger(to) || to < 0 || to >= doc.order.length) { order.show(doc.order.length); return; }
-  doc.order.splice(to, 0, ...doc.order.splice(from, 1));
+  doc.order = doc.order.toSpliced(from, 1).toSpliced(to, 0, doc.order[from]);
   await evaluate();
   if (key) order.reach(to, key);
 }
@@ -292,7 +292,7 @@ byId("rest").onclick = doing(async () => {
 byId("keep").onclick = doing(() => {
   const {makespan, end, span, jobs} = now, number = doc.plans.length + 1;
   const title = byId("title").value || tr("Plan {number}", {number});
-  doc.plans.push({title, order: [...doc.order], held: doc.held, calendar: calendar(), makespan, end, span,
+  doc.plans.push({title, order: doc.order, held: doc.held, calendar: calendar(), makespan, end, span,
                   ends: Object.fromEntries(jobs.map(([name, , last]) => [name, last]))});
   return evaluate();
 });
@@ -313,7 +313,7 @@ function drawPlans() {
     row.className = each.span === least ? "best" : "";
     const cell = made("td", null, row);
     made("button", tr("Show"), cell, {onclick: doing(() => {
-      doc = {...doc, order: [...each.order], held: each.held};
+      doc = {...doc, order: each.order, held: each.held};
       restore(each.calendar);
       return evaluate();
     })});
