@@ -82,7 +82,7 @@ def calls_of(words: list[str], top: pathlib.Path, folder: pathlib.Path, fails: i
     return got, (folder / "notes").read_text().splitlines()
 
 
-@pytest.mark.parametrize(("script", "steps"), [("tools/test", 4), ("tools/try", 2), (".ci/run", 4),
+@pytest.mark.parametrize(("script", "steps"), [("tools/test", 5), ("tools/try", 2), (".ci/run", 4),
                                                ("tools/hooks/pre-commit", 1)])
 def test_a_script_ends_where_a_step_fails(script: str, steps: int, top: pathlib.Path, folder: pathlib.Path) -> None:
     """In a hook the tests' own git works as outside of the commit, and not on this repository."""

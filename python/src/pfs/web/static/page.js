@@ -261,7 +261,8 @@ const order = listIn(byId("order"), at => {
 });
 async function move(from, to, key) {
   if (!Number.isInteger(to) || to < 0 || to >= doc.order.length) { order.show(doc.order.length); return; }
-  doc.order = doc.order.toSpliced(from, 1).toSpliced(to, 0, doc.order[from]);
+  const others = doc.order.filter((_, at) => at !== from);
+  doc.order = [...others.slice(0, to), doc.order[from], ...others.slice(to)];
   await evaluate();
   if (key) order.reach(to, key);
 }
