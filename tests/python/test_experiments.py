@@ -577,8 +577,7 @@ command = "./mine {{instance}} {{seed}} {{seconds}} {{name}} {{jobs}} {{machines
 
 
 # Uses 0.3 seconds of processor time, the second half of them in the system.
-BUSY = ("import os, time\nwhile time.process_time() < 0.15: pass\n"
-        "while time.process_time() < 0.3: os.urandom(99999)\n")
+BUSY = "import os, time as t\nwhile t.process_time() < 0.15: pass\nwhile t.process_time() < 0.3: os.urandom(9999)\n"
 
 
 def with_other(experiment: Experiment, plan: str, program: str) -> Experiment:
@@ -811,8 +810,8 @@ def test_a_run_for_irace(experiment: Experiment, top: pathlib.Path) -> None:
     assert len(named) == 2 and all((top / "experiments" / name).is_file() for name in named)
 
 
-# In this many seconds of processor time, or without a limit; what a line or a program prints, and how many processes it
-# leaves, or how it fails.
+# In this many seconds of processor time, or any: what a line or a program prints and how many processes it leaves, or
+# how it fails.
 SPIN = "setsid python3 -c 'import time\nwhile time.process_time() < 9: pass' "
 SLEEP = "setsid sleep 60 "
 LINES = [

@@ -7,7 +7,6 @@ import re
 import signal
 import subprocess
 import sys
-from itertools import accumulate
 from typing import Any
 from unittest import mock
 
@@ -21,9 +20,9 @@ from support.program import Program
 from support.tools import wait_until, write_script
 
 # The second of two blocks has three jobs. 10 is the makespan of 2 1 3 and a bound, and 11 is the makespan of 1 2 3.
-RUN = one.Run("7", "instances/1", "orlib", "2", "5", "-", "2", "1", "7", "1", "-", "3", "2", "shops/two.or", "m", "-")
-EIGHT = RUN._replace(file="instances/2", layout="taillard", block="1")
-TWENTY = EIGHT._replace(file="instances/3")
+RUN = one.Run("7", "1", "orlib", "2", "5", "-", "2", "1", "7", "1", "-", "3", "2", "shops/two.or", "m", "-")
+EIGHT = RUN._replace(file="2", layout="taillard", block="1")
+TWENTY = EIGHT._replace(file="3")
 BEST, OTHER = "order 3\n2 1 3\nmakespan 10\n", "order 3\n1 2 3\nmakespan 11\n"
 
 
@@ -33,14 +32,11 @@ def copies(folder: pathlib.Path, pfs: Program, libpfs: Library, monkeypatch: pyt
     stage.begin(folder, str(pfs.path))
     made = folder / stage.stage_of(folder)
     stage.copy(str(libpfs.path), made / one.LIBRARY)
-    (made / "instances").mkdir()
     for number, text in enumerate((TWO_BLOCKS, FILES["eight"], generated(20, 5, 873654221)), 1):
-        (made / "instances" / str(number)).write_bytes(text)
+        (made / str(number)).write_bytes(text)
     monkeypatch.setattr(one, "HERE", str(made))
     return made
 
-
-# Searches of the program and audits
 
 def test_a_search_by_rounds_has_the_options_of_its_run(copies: pathlib.Path, monkeypatch: pytest.MonkeyPatch) -> None:
     """And the processor time that the program took."""
@@ -54,12 +50,11 @@ SOUND = "printf 'valid\\nmakespan 10\\nbound 9\\n'"
 # What a program prints in the place of pfs, and why the run fails.
 OTHER_PROGRAMS = [
     ("kill -HUP $$", "solve: signal 1"), ("printf 'a\\377\\nb\\n'; exit 1", "solve: exit 1, a\ufffd"),
-    ("echo a; echo b >&2; exit 4", "solve: exit 4, b"), ("exit 2", "solve: exit 2, "),
-    *((line, "solve: no cells printed") for line in ("echo cells 1", "echo o; echo cells 1; echo more",
-                                                     "printf '\\377\\ncells 123456789012345678901\\n'")),
-    (f"{SOUND}; exit 1", "check: exit 1, valid, makespan 10, bound 9"), ("exit 0", "check: no verdict"),
-    (f"{SOUND}; echo a >&2", "check: a"), ("kill -HUP $$", "check: signal 1"), ("printf '\\377'", "check: \ufffd"),
-    ("printf 'valid\\nmakespan 10\\nbound 9x'", "check: valid, makespan 10, bound 9x")]
+    ("echo a;echo b>&2;exit 4", "solve: exit 4, b"), ("exit 2", "solve: exit 2, "), ("printf '\\377'", "check: \ufffd"),
+    ("echo o; echo cells 1; echo more", "solve: no cells printed"), ("exit 0", "check: no verdict"),
+    ("printf '\\377\\ncells 123456789012345678901\\n'", "solve: no cells printed"), ("kill -HUP $$", "check: signal 1"),
+    (f"{SOUND}; exit 1", "check: exit 1, valid, makespan 10, bound 9"), (f"{SOUND}; echo a >&2", "check: a"),
+    ("printf 'valid\\nmakespan 1\\nbound 9x'", "check: valid, makespan 1, bound 9x")]
 
 
 def test_a_program_that_prints_something_else_fails_its_run(copies: pathlib.Path) -> None:
@@ -85,10 +80,9 @@ def test_a_search_by_time_is_that_of_its_rounds(copies: pathlib.Path) -> None:
     assert sorted({*spans}, reverse=True) == [*spans] and {*orders} == {""}
 
 
-@pytest.mark.parametrize("options", [{}, {"partial": 2, "ties": "first", "temperature": 40}])
-def test_the_search_that_accepts_longer_orders_is_that_of_the_package(options: dict[str, Any],
-                                                                      copies: pathlib.Path) -> None:
+def test_the_search_that_accepts_longer_orders_is_that_of_the_package(copies: pathlib.Path) -> None:
     """By rounds it has no trajectory."""
+    options: dict[str, Any] = {"partial": 2, "ties": "first", "temperature": 40}
     shop = package.read(copies / TWENTY.file, "taillard")
     wanted = shop.solve(method="iterated-greedy", rounds=30, take=2, passes=1, seed=7, **options).to_text()
     found = one.by_library(TWENTY._replace(rounds="30"), options)
@@ -116,16 +110,14 @@ COMMANDS: list[tuple[str, list[tuple[int, str]], str]] = [
     ("J2-J1-J3", [(11, "1 2 3")], BEST), ("1 2 3", [(10, "2 1 3")], OTHER),
     ("1 1 1", [], "order 3\n1 1 1\nmakespan 0\n"), ("", [], "command: nothing printed"),
     ("2 1 3\n1 2 3", [], "command: no order printed: '2 1 3'"), ("2 0 1", [], "command: job 0: jobs count from 1"),
-    (f"{'x' * 39}yz", [], f"command: no order printed: '{'x' * 39}y'"),
-    ("", [(9, "x")], "command: no order printed: 'x'"),
+    ("", [(9, f"{'x' * 39}yz")], f"command: no order printed: '{'x' * 39}y'"),
     ("2 1 3", [(10, "1 2 3")], "check: exit 1, wrong makespan, stated 10, computed 11")]
 
 
 @pytest.mark.parametrize(("text", "printed", "wanted"), COMMANDS)
-def test_the_order_of_a_command_is_its_last_or_its_best_one(text: str, printed: list[tuple[int, str]], wanted: str,
-                                                            copies: pathlib.Path,
-                                                            monkeypatch: pytest.MonkeyPatch) -> None:
-    """And those on the way that are below all before are audited."""
+def test_the_order_of_a_command(text: str, printed: list[tuple[int, str]], wanted: str, copies: pathlib.Path,
+                                monkeypatch: pytest.MonkeyPatch) -> None:
+    """It is the last one, or the best on the way. There those below all before are audited."""
     points = [Point(at, *each) for at, each in enumerate(printed)]
     monkeypatch.setattr(one, "run_command", lambda *_: (text, 4.5, 2, points))
     try:
@@ -134,13 +126,12 @@ def test_the_order_of_a_command_is_its_last_or_its_best_one(text: str, printed: 
         assert str(failure) == wanted
     else:
         spans = [span for span, _ in printed]
-        better = [(spans.index(span), span, (BEST, OTHER)[span - 10]) for span in dict.fromkeys(accumulate(spans, min))]
-        assert found == Found(wanted, "", 4.5, "", 2, better)
+        kept = [(at, span, (BEST, OTHER)[span - 10]) for at, span in enumerate(spans) if span < min(spans[:at] + [99])]
+        assert found == Found(wanted, "", 4.5, "", 2, kept)
 
 
-def test_a_command_gets_the_values_of_its_run_and_a_copy_of_its_instance(copies: pathlib.Path,
-                                                                       monkeypatch: pytest.MonkeyPatch) -> None:
-    """Which nobody can write, and which is gone afterwards. Without a limit it has no time."""
+def test_a_command_gets_the_values_of_its_run(copies: pathlib.Path, monkeypatch: pytest.MonkeyPatch) -> None:
+    """And a copy of its instance, which nobody can write and which is gone later. Without a limit it has no time."""
     def run_command(words: list[str], folder: str, seconds: float | None) -> tuple[str, float, int, list[Point]]:
         copy = pathlib.Path(words[1])
         assert (copy.read_bytes(), copy.stat().st_mode & 0o777) == (TWO_BLOCKS, 0o444)
@@ -153,7 +144,7 @@ def test_a_command_gets_the_values_of_its_run_and_a_copy_of_its_instance(copies:
     for limit, due in (("-", None), ("0.25", 0.25)):
         one.by_command(["m", "{instance}", "{name}", "x{jobs}x{machines}", "{seed}", "{seconds}", "{block}", "{"],
                        RUN._replace(limit=limit))
-    assert [copy.exists() for copy in seen] == [False] * 2
+    assert [copy.exists() for copy in seen] == [False, False]
 
 
 # What is printed of the runs
@@ -179,9 +170,8 @@ def test_each_search_is_made_by_what_can_make_it(options: dict[str, Any] | None,
     """By rounds by the program, which counts cells, and else by the library; only a search by time has a trajectory."""
     cells = r"\d+" if options is None else ""
     for limit, rounds, way in (("-", "", ""), ("0.01", r"\d+", r"[\d.: ]+")):
-        (order, row), = one.results(EIGHT._replace(limit=limit), [], options)
+        (_, row), = one.results(EIGHT._replace(limit=limit), [], options)
         assert re.fullmatch(rf"7,\d+,\d+,{cells},\d\.\d{{6}},ok,{rounds},0,{way}", ",".join(row)), row
-        assert order.endswith(f"makespan {row[1]}\n")
 
 
 def test_runs_are_printed_until_the_starter_is_gone(copies: pathlib.Path, monkeypatch: pytest.MonkeyPatch,

@@ -49,8 +49,7 @@ def test_errors_of_a_program(error: BaseException, status: int, said: str, capsy
 
 def test_the_help_has_no_word_that_is_nowhere_else() -> None:
     """In the pages, the manuals and the tests: no word is cut or misspelled. Texts of options also end with two words
-    that are there one after the other, or go on, default all, in TOML, and source, in inches, or no titles. Each
-    program has its name."""
+    that are there one after the other, or go on, default all, in TOML, and source, in inches, or no titles."""
     pages = [*TOP.glob("*.md"), *(path for folder in ("docs", "share", "python", "experiments", "tests")
                                   for ending in ("md", "1", "py") for path in (TOP / folder).rglob(f"*.{ending}")
                                   if path.suffix != ".py" or folder == "tests")]
@@ -58,7 +57,7 @@ def test_the_help_has_no_word_that_is_nowhere_else() -> None:
     known = {word for pair in pairs for word in pair}
     for name, parser in {"python3 -m pfs": words(), "pfs-gantt": _gantt.words(), "pfs-web": web_words(),
                          "pfs-experiments": command_line()}.items():
-        assert parser.format_usage().startswith(f"usage: {name} ")
+        assert parser.format_usage().startswith(f"usage: {name} "), "the name of a program"
         commands: dict[str, Any] = next((each.choices for each in parser._actions
                                          if isinstance(each.choices, dict)), {})
         for each in (parser, *commands.values()):

@@ -479,7 +479,7 @@ def names_in(table: Rows, cells: Iterable[Cell], what: str) -> list[str]:
         elif cell.text in seen:
             table.report(cell, f"the {what} {cell.text!r} is in {seen[cell.text].name} too")
         seen.setdefault(cell.text, cell)
-    return [*seen]
+    return list(seen)
 
 
 def unit_in(text: str) -> str:
