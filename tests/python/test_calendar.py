@@ -393,6 +393,8 @@ def test_a_page_has_the_dates_of_the_schedule(chromium: str, tmp_path: pathlib.P
     assert all(re.fullmatch(r"\w{3}( (\d{4}-)?\d\d-\d\d)?", day) for day in seen["days"]), seen["days"]
     marks = [text for text in seen["scale"] if re.fullmatch(r"\w{3} \d{4}-\d\d-\d\d", text["text"])]
     assert all(after["x"] - before["x"] > 95 for before, after in zip(marks, marks[1:])), "dates overlap"
+    clocks = [text["text"] for text in seen["scale"] if ":" in text["text"]]
+    assert case != "seconds" or len(clocks) == len({*clocks}) > 2, "marks say the same time"
     dates = [text["text"] for text in marks]
     days = [datetime.date.fromisoformat(text[4:]) for text in dates]
     assert days and days == sorted(set(days)), "each date once, from left to right"

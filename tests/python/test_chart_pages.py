@@ -130,6 +130,7 @@ MOVES: dict[str, tuple[tuple[float, float], str]] = {
     'press("+"); send("dblclick", MouseEvent, left, 5)': ((0, 125), ""),
     'hover(70)': ((0, 125), TIP_OF_DRILL), 'hover(0)': ((0, 125), ""),
     'hover(70)' + LEAVE: ((0, 125), ""),
+    FAR_IN + 'hover(70); send("pointermove", PointerEvent, width - RIGHT + 9, yOf(1) + ROW / 2)': ((30.5, 94.5), ""),
     'press("+", "+"); hover(70)': ((22.5, 102.5), TIP_OF_DRILL),
     'tap(25)': ((0, 125), TIP), 'tap(25); tap(5, 2)': ((0, 125), ""),
     'touch(1, 25); slide(1, 25.1); lift(1)': ((0, 125), TIP),
@@ -665,7 +666,7 @@ def test_the_lists_are_there_without_scripts(tmp_path: pathlib.Path) -> None:
 def test_the_page_tells_the_times_of_the_csv(unit: str, decimals: int, calendar: pfs.Calendar | None, chromium: str,
                                              tmp_path: pathlib.Path) -> None:
     """With minutes below ten, decimals, operations that end with a shift, others that take no time, and later weeks."""
-    times = [[120, 0, 5], [480, 485, 475], [960, 1, 2400], [0, 2400, 9_999], [7, 7, 1]]
+    times = [[5, 0, 120], [480, 485, 475], [960, 1, 2400], [0, 2400, 9_999], [7, 7, 1]]
     made = pfs.Instance(times, job_names=[*"abcde"], machine_names=[*"xyz"], unit=unit, decimals=decimals).schedule(
         range(5))
     script = "tell({spans: table.machines.map((_, machine) => table.jobs.map((_, place) => spanOf(machine, place)))})"

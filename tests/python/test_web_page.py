@@ -281,7 +281,9 @@ def test_a_search_is_ended_and_what_goes_wrong_is_shown(page: Page) -> None:
     cells = [each.text.split(":")[0] for each in page.all("#faults button")]
     assert [cells[0], *cells[24:26], *cells[-2:]] == ["B2", "Z2", "AA2", "AZ2", "BA2"]
     page.paste("job;saw\n")
-    page.wait(lambda: page.text("#message") or len(page.all("#faults button")) < 9 and page.text("#faults"))
+    page.wait(lambda: len(page.all("#faults button")) == 1)
+    page.all("#faults button")[0].click()
+    assert page.browser.switch_to.active_element.get_attribute("data-key") == "1,1", "the first cell of the row"
     page.browser.execute_script("sessionStorage.setItem('token', 'wrong'); location.reload()")
     page.wait(lambda: "token" in page.text("#message"))
     assert [("403" in each or "422" in each) for each in page.logged()].count(False) == 0
@@ -321,8 +323,12 @@ def test_what_the_page_asks_and_keeps(page: Page) -> None:
     assert page.one("#drop").get_attribute("class") == "over"
     run(DRAG, "drop")
     page.wait(lambda: page.text("#read").startswith("dropped.csv: 2 jobs") and not page.all(".over"))
+    run("window.late = new Promise(done => { window.come = done; })")
+    run(DRAG, "drop")
     page.drop("chosen.csv", b"job,saw\nJ1,1\n")
     page.wait(lambda: page.text("#read").startswith("chosen.csv: 1 jobs"))
+    page.browser.execute_async_script("come(); setTimeout(arguments[0], 100)")
+    assert page.text("#read").startswith("chosen.csv: 1 jobs"), "a file that is read for long replaces a later one"
     page.drop("chosen.csv", TABLE.encode())
     page.wait(lambda: "12 jobs" in page.text("#read"))
     for name, value, due in (("unit", "min", "min"), ("decimal", ",", ","), ("decimals", "0", 0)):

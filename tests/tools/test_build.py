@@ -55,6 +55,7 @@ NOTE = """#!/bin/sh
 case $0 in /*) set -- "${0##*/}" "$@" ;; *) set -- "$0" "$@" ;; esac
 (IFS='|'; echo "$*${GIT_DIR-}" >> "$NOTES")
 for word; do case $word in lib/out/*) echo made > "$word" ;; esac; done
+[ "$1" != rt ] || cat
 [ "$(grep -c . "$NOTES")" != "$FAILS" ] || exit 7
 """
 CALLED = ["tools/build", "tools/dist", "tools/library", "tools/setup", "tools/site/build", "tools/test", "tools/try",
@@ -68,7 +69,7 @@ def calls_of(words: list[str], top: pathlib.Path, folder: pathlib.Path, fails: i
     for name in ("lib/out", "crates/pfs/out", "crates/pfs_c/out"):
         (folder / name).mkdir(parents=True, exist_ok=True)
     for name in ("crates/pfs/stdin", "crates/pfs_c/out/libpfs_c.a", "crates.txt", "notes"):
-        (folder / name).write_text("")
+        (folder / name).write_text("the stored input\n" if "stdin" in name else "")
     for name in CALLED:
         write_script(folder / name, NOTE)
     for name in {"Makefile", words[0]} - {"/usr/bin/make"}:
@@ -78,14 +79,18 @@ def calls_of(words: list[str], top: pathlib.Path, folder: pathlib.Path, fails: i
     return got, (folder / "notes").read_text().splitlines()
 
 
-@pytest.mark.parametrize(("script", "steps"), [("tools/test", 4), ("tools/try", 2), (".ci/run", 4),
-                                               ("tools/hooks/pre-commit", 1)])
-def test_a_script_ends_where_a_step_fails(script: str, steps: int, top: pathlib.Path, folder: pathlib.Path) -> None:
+@pytest.mark.parametrize(("script", "steps"), [
+    ("tools/test", ["setup|test", "check", "crates/pfs/out/pfs|lib/out/libpfs.so.1", "not check and not calls"]),
+    ("tools/try", ["setup|try", "try"]), (".ci/run", ["setup|all", "ci", "tools/test", "calls"]),
+    ("tools/hooks/pre-commit", ["make|-s|check"])])
+def test_a_script_ends_where_a_step_fails(script: str, steps: list[str], top: pathlib.Path,
+                                          folder: pathlib.Path) -> None:
     """In a hook the tests' own git works as outside of the commit, and not on this repository."""
     git = {"GIT_DIR": "nowhere"} if "hooks" in script else {}
-    for fails in range(steps + 1):
+    for fails in range(len(steps) + 1):
         got, calls = calls_of([script], top, folder, fails, **git)
-        assert (got.status, len(calls)) == (7 if fails else 0, fails or steps) and "nowhere" not in calls[0], calls
+        assert (got.status, len(calls)) == (7 if fails else 0, fails or len(steps))
+        assert all(map(str.endswith, calls, steps)) and ("stored" in got.stdout) == (calls[-1] == "rt|try"), calls
         assert script != "tools/test" or got.stdout.count(": failed with status 7\n") == bool(fails), got.stdout
 
 
@@ -120,6 +125,9 @@ def test_the_library_is_made_by_the_compiler_that_is_named(top: pathlib.Path, fo
         assert {path.name: path.read_text() for path in (folder / "lib" / "out").iterdir()} == dict.fromkeys(
             ("libpfs.a", "libpfs.so.1"), f"{due}\n")
     assert [call.count("|-g|-Og|") for call in calls if call.startswith("my-cc|")] == [1, 1, 0]
+    (folder / "crates" / "pfs_c" / "out" / "libpfs_c.a").unlink()
+    got = run_tool(["tools/library"], folder)
+    assert got.status == 1 and "tools/build pfs_c" in got.stderr
 
 
 # Packages
@@ -147,28 +155,28 @@ case $* in
     echo '0 upgraded, 55 newly installed, 0 to remove and 3 not upgraded.'
     echo 'Need to get 60.5 MB of archives.'
     exit 1 ;;
-*' -y --no-install-recommends nosuch munge') exit {status} ;;
+*' -y --no-install-recommends nosuch munge') {ends} ;;
 esac
 """
 
 
-@pytest.mark.parametrize("status", [0, 100])
-def test_what_is_installed_is_on_one_line(status: int, top: pathlib.Path, folder: pathlib.Path) -> None:
+@pytest.mark.parametrize("ends", ["exit 0", "exit 100", "kill -INT $PPID"])
+def test_what_is_installed_is_on_one_line(ends: str, top: pathlib.Path, folder: pathlib.Path) -> None:
     """And of a server, what becomes of it. The packages are still missing after it, as this apt installs nothing."""
     script = (top / "tools" / "setup").read_text().replace("/usr/sbin/policy-rc.d", str(folder / "policy"))
     script = script.replace('if [ "$(id -u)" = 0 ]; then "$@"; else sudo -n "$@"; fi', '"$@"')
     write_script(folder / "tools" / "setup", script)
     (folder / "tools" / "packages").write_text("== try: nothing\nnosuch  command nosuch\nmunge  command nosuch sh\n")
-    write_script(folder / "apt-get", APT.format(status=status))
+    write_script(folder / "apt-get", APT.format(ends=ends))
     env = {"PATH": f"{folder}:/usr/bin:/bin", "TMPDIR": str(folder)}
     got = run_tool(["sh", "tools/setup", "try"], folder, env=env)
     first, *others = got.stderr.splitlines()
     log, = folder.glob("tmp.*")
     assert first == f"setup: installing 55 packages, 60.5 MB for nosuch munge (what apt says is in {log})"
     assert got.stdout == "" and log.read_text().count("debconf") > 1 and not (folder / "policy").exists()
-    assert others[-1:] == (["debconf: delaying package configuration"] if status else
-                           ["setup: these packages are still incomplete: nosuch munge"])
-    assert status or len(others) == 2 and others[0].startswith("setup: the server of munge isn't started now")
+    assert others[-1:] == {"exit 0": ["setup: these packages are still incomplete: nosuch munge"],
+                           "exit 100": ["debconf: delaying package configuration"]}.get(ends, []) and got.status == 1
+    assert ends != "exit 0" or len(others) == 2 and others[0].startswith("setup: the server of munge isn't started now")
 
 
 def test_who_is_not_root_gets_the_command(top: pathlib.Path, folder: pathlib.Path) -> None:
