@@ -351,6 +351,8 @@ for (let machine = 0; machine < machines; ++machine) {
   const rows = [...lists[machine].querySelectorAll("tbody tr")];
   seen.lists.push(rows.map(row => [...row.cells].map(cell => cell.textContent)));
 }
+seen.clocks = drawnBy(() => press(..."+".repeat(80))).texts.map(text => text.text).filter(text => /^\\d+:/.test(text));
+press("0");
 choice.value = "all";
 choice.dispatchEvent(new Event("change"));
 document.body.style.width = `${130 + 60 * days.length}px`;
@@ -393,8 +395,7 @@ def test_a_page_has_the_dates_of_the_schedule(chromium: str, tmp_path: pathlib.P
     assert all(re.fullmatch(r"\w{3}( (\d{4}-)?\d\d-\d\d)?", day) for day in seen["days"]), seen["days"]
     marks = [text for text in seen["scale"] if re.fullmatch(r"\w{3} \d{4}-\d\d-\d\d", text["text"])]
     assert all(after["x"] - before["x"] > 95 for before, after in zip(marks, marks[1:])), "dates overlap"
-    clocks = [text["text"] for text in seen["scale"] if ":" in text["text"]]
-    assert case != "seconds" or len(clocks) == len({*clocks}) > 2, "marks say the same time"
+    assert len(seen["clocks"]) == len({*seen["clocks"]}) > 2, "close marks say the same time"
     dates = [text["text"] for text in marks]
     days = [datetime.date.fromisoformat(text[4:]) for text in dates]
     assert days and days == sorted(set(days)), "each date once, from left to right"

@@ -351,9 +351,11 @@ function now(done) {
   return {letters: [...new Set(texts.filter(text => text.align === "right").map(text => text.colour))],
           idle: fills[0][4], boxes: [...new Set(boxes.map(box => box[4]))], size: [canvas.width, canvas.height]};
 }
-const body = getComputedStyle(document.body);
-tell({screen: now(() => press("0")), page: [body.color, body.backgroundColor], paper: now(beginPrint),
-      after: now(endPrint)});
+const body = getComputedStyle(document.body), seen = {
+  screen: now(() => press("0")), page: [body.color, body.backgroundColor], paper: now(beginPrint), after: now(endPrint)};
+drawn.fills = [];
+isDark.dispatchEvent(new Event("change"));
+tell({...seen, isFollowed: drawn.fills.length > 0});
 """
 
 
@@ -368,6 +370,7 @@ def test_a_dark_screen_has_colours_of_its_own_and_paper_is_white(flags: tuple[st
     size = seen["screen"].pop("size")
     assert seen["paper"].pop("size")[0] == 4 * 1040 and seen["after"].pop("size") == size
     assert (seen["screen"], seen["paper"], seen["after"]) == (due, light, due)
+    assert seen["isFollowed"], "where the screen becomes dark later, the chart stays as it is"
     letters, ground = (sum(int(part) for part in re.findall(r"\d+", colour)[:3]) / 765 for colour in seen["page"])
     assert (letters > 0.8 and ground < 0.2) if DARK in flags else (letters < 0.2 and ground > 0.8)
 
@@ -480,12 +483,15 @@ def test_bars_have_names_or_places_of_a_key(chromium: str, tmp_path: pathlib.Pat
 
 
 def test_a_long_name_is_cut_where_its_bar_ends(chromium: str, tmp_path: pathlib.Path) -> None:
-    """After its place, and more of it on a longer bar. The key has all of it."""
+    """After its place, and more of it on a longer bar. The key has all of it. A machine's leaves room for the bars."""
     name = "table of oak " * 30
     seen = seen_of(chromium, plan([name, *NAMES[1:]]), tmp_path, SEEN)
     cut = [seen["screen"]["bars"][f"{machine} 0"] for machine in range(3)]
     assert all(text[-1] == "\u2026" and f"1 {name}".startswith(text[:-1]) for text in cut)
     assert 20 < len(cut[1]) < len(cut[0]) < len(cut[2]) and seen["paper"]["key"][0] == f"\u25a0 1 {name}"
+    made = pfs.Instance(LENGTHS, machine_names=[name, *MACHINES[1:]]).schedule(ORDER)
+    seen = seen_of(chromium, made, tmp_path, WHOLE.replace("PLACES", "[]"))
+    assert seen["right"] - seen["left"] > 500
 
 
 @pytest.mark.parametrize(("names", "times"), [(None, LENGTHS), ([*"abcde"], [[100, 100, 100]] * 5)])

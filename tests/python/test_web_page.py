@@ -209,14 +209,14 @@ def test_a_week(page: Page) -> None:
     assert page.all("#order tr.held") and page.one("#begin").get_attribute("value").startswith("2026-11-30T07:00")
     page.shot("rest")
     # Downloads.
-    page.write(page.one("#title"), "../KW 49")
+    page.write(page.one("#title"), "../S\u00e4ge 49")
     for kind, start in (("csv", b"\xef\xbb\xbfjob;machine"), ("xlsx", b"PK"), ("zip", b"PK"), ("html", b"<!DOCTYPE"),
                         ("pdf", b"%PDF"), ("txt", b"")):
-        path = page.downloads / f"---KW 49.{kind}"
+        path = page.downloads / f"---S\u00e4ge 49.{kind}"
         page.click(f"[data-kind={kind}]")
         page.wait(lambda: path.exists() and path.stat().st_size, f"{path} in {[*page.downloads.iterdir()]}")
         assert path.read_bytes().startswith(start)
-    assert (page.downloads / "---KW 49.txt").read_text().splitlines() == page.order()
+    assert (page.downloads / "---S\u00e4ge 49.txt").read_text().splitlines() == page.order()
     assert page.logged() == [] and page.browser.title == "Plan a flow shop", "no script of a name has run"
 
 
@@ -391,6 +391,10 @@ def test_what_the_page_asks_and_keeps(page: Page) -> None:
         page.wait(lambda: page.key(place).get_attribute("value") == "5")
     assert page.order() == before
     # The third job is held with those before it. A response that comes late replaces no later one.
+    press(f"{page.order()[2]}:hold")
+    page.wait(lambda: len(page.all("#order tr.held")) == 3)
+    press(f"{page.order()[2]}:hold")
+    page.wait(lambda: len(page.all("#order tr.held")) == 2)
     press(f"{page.order()[2]}:hold")
     page.wait(lambda: len(page.all("#order tr.held")) == 3)
     before = page.order()

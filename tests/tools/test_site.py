@@ -1,5 +1,6 @@
 """The site that `make docs` makes: it has each page, each public name of the package for Python and each name of the
 library's header, no link leads nowhere, and nothing of it is loaded from the network."""
+import os
 import pathlib
 import re
 import shutil
@@ -37,7 +38,9 @@ def site(top: pathlib.Path, tmp_path_factory: pytest.TempPathFactory) -> pathlib
     for module in ("sphinx", "numpydoc", "myst_parser", "numpy"):
         require_debian_module(module)
     folder = tmp_path_factory.mktemp("site").resolve() / "made"
-    assert run_tool([top / "tools" / "site" / "build", folder], top) == (0, f"{folder}/index.html\n", "")
+    env = os.environ | {"TMPDIR": str(folder.parent)}
+    assert run_tool([top / "tools" / "site" / "build", folder], top, env=env) == (0, f"{folder}/index.html\n", "")
+    assert [path.name for path in folder.parent.iterdir()] == ["made"], "what is left of the making"
     return folder
 
 
