@@ -352,7 +352,8 @@ function now(done) {
           idle: fills[0][4], boxes: [...new Set(boxes.map(box => box[4]))], size: [canvas.width, canvas.height]};
 }
 const body = getComputedStyle(document.body), seen = {
-  screen: now(() => press("0")), page: [body.color, body.backgroundColor], paper: now(beginPrint), after: now(endPrint)};
+  screen: now(() => press("0")), page: [body.color, body.backgroundColor], paper: now(beginPrint),
+  after: now(endPrint)};
 drawn.fills = [];
 isDark.dispatchEvent(new Event("change"));
 tell({...seen, isFollowed: drawn.fills.length > 0});

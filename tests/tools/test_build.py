@@ -108,12 +108,6 @@ def test_a_goal_of_make_calls_its_script(goal: str, last: str, top: pathlib.Path
     assert got.status == 0 and calls[-1:] == [last], calls
 
 
-def test_the_list_of_goals_is_whole(top: pathlib.Path) -> None:
-    listed = re.findall(r"^make (\S+)  ", output_of(["make", "-s", "help"], top), re.MULTILINE)
-    phony = re.findall(r"^\.PHONY: (.*)", (top / "Makefile").read_text(), re.MULTILINE)
-    assert sorted(listed) == sorted(" ".join(phony).split())
-
-
 def test_the_library_is_made_by_the_compiler_that_is_named(top: pathlib.Path, folder: pathlib.Path) -> None:
     """If a step fails, the one of before stays; and nothing else is left."""
     for fails, due in ((0, "made"), *((step, "old") for step in range(2, 9))):
@@ -180,17 +174,14 @@ def test_what_is_installed_is_on_one_line(ends: str, top: pathlib.Path, folder: 
 
 
 def test_who_is_not_root_gets_the_command(top: pathlib.Path, folder: pathlib.Path) -> None:
-    """Where `sudo` would ask for a password. Nothing is said if nothing is missing."""
-    for name in ("apt-get", "sudo"):
-        write_script(folder / name, "#!/bin/sh\nexit 1\n")
-    write_script(folder / "id", "#!/bin/sh\necho 1000\n")
-    write_script(folder / "tools" / "setup", (top / "tools" / "setup").read_text())
-    for command, line in (("nosuch", "apt-get install --no-install-recommends package\n"), ("sh", "")):
-        (folder / "tools" / "packages").write_text(f"== try: nothing\npackage  command {command}\n")
-        got = run_tool(["sh", "tools/setup", "try"], folder, env=with_path(folder))
-        assert (got.status, got.stdout) == (1 if line else 0, "") and got.stderr.endswith(line)
-        assert got.stderr.count("\n") == (2 if line else 0)
-    assert run_tool(["sh", "tools/setup", "--missing", "all", "try"], folder, env=with_path(folder)).status == 2
+    """Where `sudo` would ask for a password."""
+    for name, text in (("apt-get", "exit 1"), ("sudo", "exit 1"), ("id", "echo 1000"),
+                       ("tools/setup", (top / "tools" / "setup").read_text())):
+        write_script(folder / name, f"#!/bin/sh\n{text}\n")
+    (folder / "tools" / "packages").write_text("== try: nothing\npackage  command nosuch\n")
+    got, other = (run_tool(["sh", "tools/setup", name], folder, env=with_path(folder)) for name in ("try", "tried"))
+    assert got.status == 1 and got.stderr.endswith(":\napt-get install --no-install-recommends package\n")
+    assert other.status == 2 and got.stdout == other.stdout == ""
 
 
 def test_what_the_tests_need_is_in_a_package(top: pathlib.Path) -> None:
