@@ -388,6 +388,8 @@ DANGEROUS = [
 STRUCTURE = """
 const seen = {titles: [document.title, document.querySelector("h1").textContent, canvas.getAttribute("aria-label")],
               focus: document.activeElement.tagName};
+sought = new Set([0, 1]);
+showLists();
 seen.elements = [...document.querySelectorAll("*")].filter(one => one !== document.currentScript)
   .map(one => [one.tagName, [...one.attributes].map(kept => kept.name)]);
 seen.tips = [...table.jobs.keys()].map(place => {

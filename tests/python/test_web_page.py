@@ -30,11 +30,6 @@ MONDAY = [["Plan KW 49"], ["Auftrag", "Menge", "S\u00e4ge [min]", "Bohren [min]"
           [SCRIPT, 1, 25, 35, 20], ["A-6", 2, 15, 45, 30], ["Summe", None, 140, 125, 165]]
 
 
-CONTROLS = "input, select, textarea, button"
-UNNAMED = """return [...document.querySelectorAll(arguments[0])].filter(each =>
-    !each.ariaLabel && !each.textContent.trim() && !each.labels?.length).map(each => each.outerHTML)"""
-
-
 class Page:
     """The page in a browser."""
 
@@ -143,7 +138,7 @@ def planned(page: Page) -> None:
 def test_a_week(page: Page) -> None:
     page.open()
     # Before there is a table, nothing can be done with it.
-    assert [each.get_attribute("id") for each in page.all(CONTROLS) if each.is_displayed()] == ["language", "file"]
+    assert [each.get_attribute("id") for each in page.all("input, select, button, textarea") if each.is_displayed()] == ["language", "file"]
     page.drop("week.xlsx", monday())
     # Monday: the faults are at their cells. One button chooses the machines; cells are mended, and a row left out.
     page.wait(lambda: page.one("#suggest").is_displayed())
@@ -204,7 +199,6 @@ def test_a_week(page: Page) -> None:
     page.wait(lambda: (page.order(), page.text("#ends"), page.one("#shifts").get_attribute("value")) == before)
     assert page.text("#plans tr.best td") == "Plan 1" and now_begins(page) == "2026-11-30 06:00"
     assert page.one("#now").get_attribute("value") == "2026-11-30T06:00", "the rest is planned from the beginning on"
-    assert page.browser.execute_script(UNNAMED, CONTROLS) == [], "controls of which nothing tells what they do"
     # From now on, with a machine that is down.
     page.browser.execute_script("arguments[0].value = '2026-11-30T07:00'", page.one("#now"))
     page.browser.execute_script("arguments[0].value = '2026-11-30T07:45'", page.all("#machines input")[1])
@@ -278,8 +272,6 @@ def test_a_search_is_ended_and_what_goes_wrong_is_shown(page: Page) -> None:
     assert page.browser.switch_to.active_element.get_attribute("id") == "plan", "the next Enter plans again"
     page.drop("large.csv", b"," * 6_000_001)
     page.wait(lambda: "6 MB" in page.text("#message") and len(page.all("#order td.name")) > 10)
-    page.browser.execute_script("window.scrollTo(0, 9999)")
-    assert page.browser.execute_script("return byId('message').getBoundingClientRect().top") >= 0, "it is out of sight"
     page.paste("job" + "".join(f";M{at}" for at in range(2, 54)) + "\nJ" + ";1:3" * 52 + "\n")
     page.wait(lambda: len(page.all("#faults button")) == 52 and not page.one("#message").is_displayed())
     cells = [each.text.split(":")[0] for each in page.all("#faults button")]
@@ -325,6 +317,8 @@ def test_what_the_page_asks_and_keeps(page: Page) -> None:
     # A file is dropped, another one chosen, and chosen again when it has changed. An option holds for the next request.
     run(DRAG, "dragover")
     assert page.one("#drop").get_attribute("class") == "over"
+    run(DRAG, "dragleave")
+    assert not page.all(".over")
     run(DRAG, "drop")
     page.wait(lambda: page.text("#read").startswith("dropped.csv: 2 jobs") and not page.all(".over"))
     run("window.late = new Promise(done => { window.come = done; })")
@@ -337,7 +331,8 @@ def test_what_the_page_asks_and_keeps(page: Page) -> None:
     page.wait(lambda: "12 jobs" in page.text("#read"))
     for name, value, due in (("unit", "min", "min"), ("decimal", ",", ","), ("decimals", "0", 0)):
         change(f"#{name}", value)
-        page.wait(lambda: asked("/api/read")["options"][name] == due and "12 jobs" in page.text("#read"))
+        page.wait(lambda: asked("/api/read")["options"][name] == due and page.text("#read")
+                  == "chosen.csv: 12 jobs, 2 machines (saw, drill), times in min, decimals: 0")
     # The table: machines are chosen and renamed, and a row is added. A field takes what is pasted into it.
     press("3,machine")
     page.wait(lambda: "1 machines (saw)" in page.text("#read") and asked("/api/read")["options"]["machines"] == ["saw"])
@@ -362,6 +357,8 @@ def test_what_the_page_asks_and_keeps(page: Page) -> None:
     page.wait(lambda: run("return read.shop.times[1].join()") == "2,4")
     page.browser.execute_async_script("come(); setTimeout(arguments[0], 100)")
     assert run("return read.shop.times[1].join()") == "2,4"
+    assert {each.text: each.get_attribute("value") for each in Select(page.one("#seconds")).options} == {
+        "2 seconds": "2", "10 seconds": "10", "a minute": "60", "10 minutes": "600"}
     # Two searches have different seeds. A bound of one table says nothing of another one.
     Select(page.one("#seconds")).select_by_value("2")
     planned(page)
@@ -377,14 +374,12 @@ def test_what_the_page_asks_and_keeps(page: Page) -> None:
         page.wait(lambda: now_begins(page).startswith(begin[:10]) and asked("/api/plan")["title"] == title)
         page.click("#keep")
     page.wait(lambda: len(page.all("#plans tr")) == 3 and len(asked("/api/plan")["kept"]) == 2)
+    press(f"{page.order()[0]}:hold")
     page.click("#plans tr:nth-child(2) button")
-    page.wait(lambda: now_begins(page).startswith("2026-11-30"))
+    page.wait(lambda: now_begins(page).startswith("2026-11-30") and not page.all("#order tr.held"))
     press("1,forget")
     page.wait(lambda: len(page.all("#plans tr")) == 2)
     assert page.text("#plans tr:nth-child(2) td") == "one"
-    for name, value in (("shifts", "06:00-14:00"), ("days", "mon-sat"), ("closed", "2026-12-24")):
-        change(f"#{name}", value)
-        page.wait(lambda: asked("/api/plan")["calendar"][name] == value)
     # A job that is renamed keeps its place, and a place that no job can have is put back.
     before = [each.replace("J12", "K12") for each in run("return doc.order")]
     page.write(page.key("13,1"), "K12")
@@ -512,11 +507,18 @@ def test_five_thousand_jobs(page: Page) -> None:
     page.drop("large.csv", f"job,saw,drill\n{rows}".replace("\nJ4000,445,", "\nJ4000,x,").encode())
     page.wait(lambda: page.all("#faults button"))
     page.all("#faults button")[0].click()
-    page.write(page.browser.switch_to.active_element, "445")
+    active = page.browser.switch_to.active_element
+    active.send_keys(Keys.CONTROL, "a")
+    active.send_keys("445")
+    # What is written is taken also when it is scrolled away, and the heads stay.
+    page.browser.execute_script("byId('table').scrollTop = 0")
     page.wait(lambda: "5000 jobs" in page.text("#read"))
     Select(page.one("#seconds")).select_by_value("2")
     planned(page)
     assert len(page.all("#table tbody tr")) < 100 and len(page.all("#order tbody tr")) < 100
+    page.browser.execute_script("byId('table').scrollTop = 500")
+    assert page.browser.execute_script("const box = byId('table').getBoundingClientRect(); return document"
+                                       ".elementFromPoint(box.left + 9, box.top + 9).closest('thead') !== null")
     page.browser.execute_script("const box = byId('order'); box.scrollIntoView(); box.scrollTop = 2000 * 32")
     row = """const {left, top} = byId("order").getBoundingClientRect();
         return document.elementFromPoint(left + 300, top + 40).closest("tr").ariaRowIndex"""

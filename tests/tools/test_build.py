@@ -16,7 +16,8 @@ RT = """#!/bin/sh
 crate=${PWD##*/}
 echo "$crate $1" >> "$NOTES"
 case $crate in
-low) echo 'logic=proved' ;;
+low) echo 'goals=3'; echo 'logic=proved'; echo 'status=0' ;;
+stopped) kill -INT $PPID; sleep 1 ;;
 app) cat; echo 'logic=proved' >&2 ;;
 left) echo 'goal left open'; exit 7 ;;
 esac
@@ -29,14 +30,14 @@ esac
     ("above", 7, "low lib, left lib", "",
      "low: proved and built in 0:00 minutes, 2 left\ngoal left open\n"
      "build: left failed with status 7; see the output above or {0}/crates/left/out/build.log\n"),
-    ("none", 1, "", "", "build: no crate none in crates.txt\n"),
+    ("none", 1, "", "", "build: no crate none in crates.txt\n"), ("stopped", 130, "stopped lib", "", ""),
 ])
 def test_each_crate_is_built_once_after_those_below_it(targets: str, status: int, notes: str, stdout: str, said: str,
                                                        top: pathlib.Path, folder: pathlib.Path) -> None:
     """And none after one that fails."""
     (folder / "crates.txt").write_text("app: right low other\nright: low\nlow:\nabove: left\nleft: low\n"
-                                       "lib staticlib: right low\n")
-    for crate in ("app", "right", "low", "above", "left", "lib"):
+                                       "lib staticlib: right low\nstopped:\n")
+    for crate in ("app", "right", "low", "above", "left", "lib", "stopped"):
         (folder / "crates" / crate / "src").mkdir(parents=True)
     (folder / "crates" / "app" / "src" / "main.rt").touch()
     (folder / "crates" / "app" / "stdin").write_text("the stored input\n")
@@ -145,6 +146,7 @@ def test_each_list_adds_to_the_one_before(top: pathlib.Path, folder: pathlib.Pat
 APT = """#!/bin/sh
 echo debconf: delaying package configuration
 case $* in
+*' update') exit 100 ;;
 *assume-no*)
     echo '0 upgraded, 55 newly installed, 0 to remove and 3 not upgraded.'
     echo 'Need to get 60.5 MB of archives.'

@@ -61,9 +61,7 @@ def test_no_link_leads_nowhere_and_nothing_is_loaded_from_elsewhere(site: pathli
 def test_the_first_page_leads_to_each_page(site: pathlib.Path) -> None:
     written = {str(page.relative_to(TOP).with_suffix(".html")) for pattern in ("*.md", "*/*.md", "docs/*/*.md")
                for page in TOP.glob(pattern)}
-    first = Page(site / "index.html")
-    assert written - {link.partition("#")[0] for link in first.links} == set()
-    assert any(each.partition("?")[0] == "_static/site.css" for each in first.loads), "wide tables don't scroll"
+    assert written - {link.partition("#")[0] for link in Page(site / "index.html").links} == set()
 
 
 def test_each_name_is_in_the_reference_and_found_by_a_search(site: pathlib.Path) -> None:
