@@ -138,7 +138,8 @@ def planned(page: Page) -> None:
 def test_a_week(page: Page) -> None:
     page.open()
     # Before there is a table, nothing can be done with it.
-    assert [each.get_attribute("id") for each in page.all("input, select, button, textarea") if each.is_displayed()] == ["language", "file"]
+    shown = [each for each in page.all("input, select, button, textarea") if each.is_displayed()]
+    assert [each.get_attribute("id") for each in shown] == ["language", "file"]
     page.drop("week.xlsx", monday())
     # Monday: the faults are at their cells. One button chooses the machines; cells are mended, and a row left out.
     page.wait(lambda: page.one("#suggest").is_displayed())
@@ -273,7 +274,8 @@ def test_a_search_is_ended_and_what_goes_wrong_is_shown(page: Page) -> None:
     page.drop("large.csv", b"," * 6_000_001)
     page.wait(lambda: "6 MB" in page.text("#message") and len(page.all("#order td.name")) > 10)
     page.paste("job" + "".join(f";M{at}" for at in range(2, 54)) + "\nJ" + ";1:3" * 52 + "\n")
-    page.wait(lambda: len(page.all("#faults button")) == 52 and not page.one("#message").is_displayed())
+    page.wait(lambda: len(page.all("#faults button")) == 52 and not page.one("#message").is_displayed()
+              and not page.one("#plan").is_displayed())
     cells = [each.text.split(":")[0] for each in page.all("#faults button")]
     assert [cells[0], *cells[24:26], *cells[-2:]] == ["B2", "Z2", "AA2", "AZ2", "BA2"]
     page.paste("job;saw\n")
@@ -417,6 +419,10 @@ def test_what_the_page_asks_and_keeps(page: Page) -> None:
     assert page.text("#message") == ""
     for name in names:
         page.server.answer(f"/api/search/{name}", method="DELETE")
+    press("2,out")
+    page.click("#add")
+    page.wait(lambda: "; left out, as the table lacks them: J1; new, and inserted where they are best: new 15"
+              in page.text("#ends"))
     # The rest is planned from the day on that is written, with the machines that are down then.
     change("#now", "2026-11-30T10:00")
     change("[data-key=drill][type=datetime-local]", "2026-11-30T11:00")

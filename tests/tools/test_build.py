@@ -175,17 +175,6 @@ def test_what_is_installed_is_on_one_line(ends: str, top: pathlib.Path, folder: 
     assert ends != "exit 0" or len(others) == 2 and others[0].startswith("setup: the server of munge isn't started now")
 
 
-def test_who_is_not_root_gets_the_command(top: pathlib.Path, folder: pathlib.Path) -> None:
-    """Where `sudo` would ask for a password."""
-    for name, text in (("apt-get", "exit 1"), ("sudo", "exit 1"), ("id", "echo 1000"),
-                       ("tools/setup", (top / "tools" / "setup").read_text())):
-        write_script(folder / name, f"#!/bin/sh\n{text}\n")
-    (folder / "tools" / "packages").write_text("== try: nothing\npackage  command nosuch\n")
-    got, other = (run_tool(["sh", "tools/setup", name], folder, env=with_path(folder)) for name in ("try", "tried"))
-    assert got.status == 1 and got.stderr.endswith(":\napt-get install --no-install-recommends package\n")
-    assert other.status == 2 and got.stdout == other.stdout == ""
-
-
 def test_what_the_tests_need_is_in_a_package(top: pathlib.Path) -> None:
     """Every command and module that a test looks for is in one package."""
     asked = re.compile(r"\b(?:tool|require_module|require_debian_module)\(\"([\w+-]+)\"\)"

@@ -18,7 +18,7 @@ import pytest
 from support.installed import (BETWEEN, LIBRARY, OLD, PLACES, PROGRAM, SHARED, VERSION, VERSIONED, Copy,
                                assert_completions_are_found, assert_runs, assert_same_files, assert_usual_modes,
                                contents_of)
-from support.needs import package_of, require_module, tool
+from support.needs import require_module, tool
 from support.tools import TOP, imported, output_of, run_tool
 
 # so that the copy and the packages are made once
@@ -272,11 +272,6 @@ def test_debians_tools_accept_the_packages(made: Made, folder: pathlib.Path) -> 
             for field in ("Version", "Maintainer", "Depends"))
         assert (version, maintainer) == (number, "A Tester <tester@example.org>")
         assert needed <= set(depends.split(", "))
-    # What a part of the package for Python needs is named too.
-    source = "".join(path.read_text() for path in (TOP / "python" / "src").rglob("*.py"))
-    control = output_of(["dpkg-deb", "--info", made.path("/python3-pfs_"), "control"], folder)
-    assert {package_of(module) for module in re.findall(r'\boptional\("(\w+)"', source)} <= set(
-        re.findall(r"[\w-]+", control))
     output_of(["dpkg-deb", "--control", made.path(f"/{LIBPFS}_"), "library"], folder)
     assert (folder / "library" / "symbols").read_text() == SYMBOLS
 
