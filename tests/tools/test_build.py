@@ -102,9 +102,6 @@ def test_a_script_ends_where_a_step_fails(script: str, steps: list[str], top: pa
     ("mutants COUNT=7", "tests/mutants.py|7"), ("docs", "tools/site/build"),
     ("dist DIST=a/b", "tools/dist|a/b"), ("wheel DIST=a/b", "tools/dist|wheel|a/b")])
 def test_a_goal_of_make_calls_its_script(goal: str, last: str, top: pathlib.Path, folder: pathlib.Path) -> None:
-    """Also where there is a folder or a file of its name."""
-    for name in ("docs", "run", "check", "dist", "wheel"):
-        (folder / name).mkdir()
     got, calls = calls_of(["/usr/bin/make", *goal.split()], top, folder)
     assert got.status == 0 and calls[-1:] == [last], calls
 
