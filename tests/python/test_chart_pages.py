@@ -176,7 +176,7 @@ seen.pixels = pixelsAt([...Array(9).keys()].map(
   at => [xOf(table.starts[at % 3][at / 3 | 0]) + 3, yOf(at % 3) + ROW / 5]));
 seen.whole = moved(() => press("0"));
 press("+", "+");
-// Beside the chart nothing is drawn of what goes on there.
+// No bar is drawn outside of the chart.
 seen.beside = pixelsAt([[left - 4, yOf(0) + ROW / 5], [width - RIGHT + 4, yOf(1) + ROW / 5]]);
 for (const [held, key] of ["ctrlKey", "altKey", "metaKey"].flatMap(held => Object.keys(KEYS).map(key => [held, key])))
   seen.taken.push(isTaken(KeyboardEvent, "keydown", {key, [held]: true}));

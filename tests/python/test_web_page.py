@@ -203,6 +203,7 @@ def test_a_week(page: Page) -> None:
     page.wait(lambda: "finished" in page.text("#ends") and "left out" in page.text("#ends")
               or "nothing is finished" in page.text("#ends"))
     assert page.all("#order tr.held") and page.one("#begin").get_attribute("value").startswith("2026-11-30T07:00")
+    assert now_begins(page) >= "2026-11-30 07:00"
     page.shot("rest")
     # Downloads.
     page.write(page.one("#title"), "../S\u00e4ge 49")
@@ -212,6 +213,7 @@ def test_a_week(page: Page) -> None:
         page.click(f"[data-kind={kind}]")
         page.wait(lambda: path.exists() and path.stat().st_size, f"{path} in {[*page.downloads.iterdir()]}")
         assert path.read_bytes().startswith(start)
+    assert "../S\u00e4ge 49" in (page.downloads / "---S\u00e4ge 49.html").read_text("utf-8"), "a file has its title"
     assert (page.downloads / "---S\u00e4ge 49.txt").read_text().splitlines() == page.order()
     assert page.logged() == [] and page.browser.title == "Plan a flow shop", "no script of a name has run"
 
@@ -262,7 +264,7 @@ def test_a_search_is_ended_and_what_goes_wrong_is_shown(page: Page) -> None:
     page.wait(lambda: "30 jobs" in page.text("#read"))
     Select(page.one("#seconds")).select_by_value("600")
     page.click("#plan")
-    page.wait(lambda: "so far, no order is below" in page.text("#progress"))
+    page.wait(lambda: re.search(r"so far, no order is below .+; 5\d\d s left$", page.text("#progress")))
     page.shot("progress")
     page.click("#end")
     page.wait(lambda: len(page.all("#order td.name")) > 10 and page.one("#plan").is_enabled())
@@ -375,7 +377,7 @@ def test_what_the_page_asks_and_keeps(page: Page) -> None:
     press("0,forget")
     page.wait(lambda: len(page.all("#plans tr")) == 2)
     assert page.text("#plans tr:nth-child(2) td") == "two"
-    # A job that is renamed keeps its place, and a place that no job can have is put back.
+    # A job that is renamed keeps its place. Instead of a place that no job can have, the old one is there again.
     before = [each.replace("J12", "K12") for each in run("return doc.order")]
     page.write(page.key("13,1"), "K12")
     page.wait(lambda: page.order() == before)
@@ -501,9 +503,7 @@ def test_five_thousand_jobs(page: Page) -> None:
     page.drop("large.csv", f"job,saw,drill\n{rows}".replace("\nJ4000,445,", "\nJ4000,x,").encode())
     page.wait(lambda: page.all("#faults button"))
     page.all("#faults button")[0].click()
-    active = page.browser.switch_to.active_element
-    active.send_keys(Keys.CONTROL, "a")
-    active.send_keys("445")
+    page.browser.switch_to.active_element.send_keys(Keys.CONTROL, "a", Keys.NULL, "445")
     # What is written is taken also when it is scrolled away, and the heads stay.
     page.browser.execute_script("byId('table').scrollTop = 0")
     page.wait(lambda: "5000 jobs" in page.text("#read"))
