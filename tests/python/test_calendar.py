@@ -351,10 +351,15 @@ for (let machine = 0; machine < machines; ++machine) {
   const rows = [...lists[machine].querySelectorAll("tbody tr")];
   seen.lists.push(rows.map(row => [...row.cells].map(cell => cell.textContent)));
 }
+seen.clocks = drawnBy(() => press(..."+".repeat(80))).texts.map(text => text.text).filter(text => /^\\d+:/.test(text));
+press("0");
 choice.value = "all";
 choice.dispatchEvent(new Event("change"));
 document.body.style.width = `${130 + 60 * days.length}px`;
-seen.days = drawnBy(draw).texts.filter(text => text.y < TOP).map(text => text.text);
+const shown = drawnBy(draw).texts.filter(text => text.y < TOP);
+seen.days = shown.map(text => text.text);
+pen.font = SMALL_LETTERS;
+seen.rooms = shown.slice(1).map(({x}, at) => x - shown[at].x - pen.measureText(shown[at].text).width);
 document.body.style.width = "160px";
 const range = document.createRange(), cells = [...document.querySelectorAll("#lists th, #lists td")];
 seen.lines = cells.filter(cell => !cell.textContent.includes(" ")).map(cell => {
@@ -390,9 +395,13 @@ def test_a_page_has_the_dates_of_the_schedule(chromium: str, tmp_path: pathlib.P
            for job, machine, start, end in each]
     assert [tip for tip in seen["tips"] if tip] == [text for text in due if " 0\n" not in text and not is_empty(text)]
     assert set(seen["lines"]) == {1}, "a word is broken where a list is narrow"
-    assert all(re.fullmatch(r"\w{3}( (\d{4}-)?\d\d-\d\d)?", day) for day in seen["days"]), seen["days"]
+    assert all(re.fullmatch(r"\w{3}( (\d{4}-)?\d\d-\d\d)?", day) for day in seen["days"]) and min(
+        seen["rooms"], default=1) > 0, seen["days"]
     marks = [text for text in seen["scale"] if re.fullmatch(r"\w{3} \d{4}-\d\d-\d\d", text["text"])]
     assert all(after["x"] - before["x"] > 95 for before, after in zip(marks, marks[1:])), "dates overlap"
+    assert len(seen["clocks"]) == len({*seen["clocks"]}) > 2, "close marks say the same time"
+    *heights, last = sorted(text["y"] for text in seen["scale"])
+    assert last - heights[-1] >= 14, "the title of the scale is on its dates"
     dates = [text["text"] for text in marks]
     days = [datetime.date.fromisoformat(text[4:]) for text in dates]
     assert days and days == sorted(set(days)), "each date once, from left to right"

@@ -6,7 +6,7 @@ import re
 import shutil
 
 import pytest
-from support.needs import package_of, packages
+from support.needs import in_ci, package_of, packages
 from support.tools import Done, output_of, run_tool, with_path, write_script
 
 # What tools/setup itself calls.
@@ -18,7 +18,8 @@ wait_for() { until grep -q "^$1" "$NOTES"; do sleep 0.01; done; }
 [ $crate != two ] || wait_for one
 echo "$crate $1" >> "$NOTES"
 case $crate in
-low) echo 'logic=proved' ;;
+low) echo 'goals=3'; echo 'logic=proved'; echo 'status=0' ;;
+stopped) kill -INT $PPID; sleep 1 ;;
 app) cat; echo 'logic=proved' >&2 ;;
 left) echo 'goal left open'; exit 7 ;;
 one) wait_for two ;;
@@ -33,14 +34,14 @@ esac
     ("above", 7, "low lib, left lib", "",
      "low: proved and built in 0:00 minutes, 2 left\ngoal left open\n"
      "build: left failed with status 7; see the output above or {0}/crates/left/out/build.log\n"),
-    ("none", 1, "", "", "build: no crate none in crates.txt\n"),
+    ("none", 1, "", "", "build: no crate none in crates.txt\n"), ("stopped", 130, "stopped lib", "", ""),
 ])
 def test_each_crate_is_built_once_after_those_below_it(targets: str, status: int, notes: str, stdout: str, said: str,
                                                        top: pathlib.Path, folder: pathlib.Path) -> None:
     """And none after one that fails."""
     (folder / "crates.txt").write_text("app: right low other\nright: low\nlow:\nabove: left\nleft: low\n"
-                                       "one staticlib:\ntwo:\n")
-    for crate in ("app", "right", "low", "above", "left", "one", "two"):
+                                       "one staticlib:\ntwo:\nstopped:\n")
+    for crate in ("app", "right", "low", "above", "left", "one", "two", "stopped"):
         (folder / "crates" / crate / "src").mkdir(parents=True)
     (folder / "crates" / "app" / "src" / "main.rt").touch()
     (folder / "crates" / "app" / "stdin").write_text("the stored input\n")
@@ -59,6 +60,7 @@ NOTE = """#!/bin/sh
 case $0 in /*) set -- "${0##*/}" "$@" ;; *) set -- "$0" "$@" ;; esac
 (IFS='|'; echo "$*${GIT_DIR-}" >> "$NOTES")
 for word; do case $word in lib/out/*) echo made > "$word" ;; esac; done
+[ "$1" != rt ] || cat
 [ "$(grep -c . "$NOTES")" != "$FAILS" ] || exit 7
 """
 CALLED = ["tools/build", "tools/dist", "tools/library", "tools/setup", "tools/site/build", "tools/test", "tools/try",
@@ -72,7 +74,7 @@ def calls_of(words: list[str], top: pathlib.Path, folder: pathlib.Path, fails: i
     for name in ("lib/out", "crates/pfs/out", "crates/pfs_c/out"):
         (folder / name).mkdir(parents=True, exist_ok=True)
     for name in ("crates/pfs/stdin", "crates/pfs_c/out/libpfs_c.a", "crates.txt", "notes"):
-        (folder / name).write_text("")
+        (folder / name).write_text("the stored input\n" if "stdin" in name else "")
     for name in CALLED:
         write_script(folder / name, NOTE)
     for name in {"Makefile", words[0]} - {"/usr/bin/make"}:
@@ -82,35 +84,31 @@ def calls_of(words: list[str], top: pathlib.Path, folder: pathlib.Path, fails: i
     return got, (folder / "notes").read_text().splitlines()
 
 
-@pytest.mark.parametrize(("script", "steps"), [("tools/test", 5), ("tools/try", 2), (".ci/run", 4),
-                                               ("tools/hooks/pre-commit", 1)])
-def test_a_script_ends_where_a_step_fails(script: str, steps: int, top: pathlib.Path, folder: pathlib.Path) -> None:
+@pytest.mark.parametrize(("script", "steps"), [
+    ("tools/test", ["setup|test", "check", "crates/pfs/out/pfs|lib/out/libpfs.so.1", "not check and not calls",
+                    "mutants.py|--least|75|40"]),
+    ("tools/try", ["setup|try", "try"]), (".ci/run", ["setup|all", "ci", "tools/test", "calls"]),
+    ("tools/hooks/pre-commit", ["make|-s|check"])])
+def test_a_script_ends_where_a_step_fails(script: str, steps: list[str], top: pathlib.Path,
+                                          folder: pathlib.Path) -> None:
     """In a hook the tests' own git works as outside of the commit, and not on this repository."""
     git = {"GIT_DIR": "nowhere"} if "hooks" in script else {}
-    for fails in range(steps + 1):
+    for fails in range(len(steps) + 1):
         got, calls = calls_of([script], top, folder, fails, **git)
-        assert (got.status, len(calls)) == (7 if fails else 0, fails or steps) and "nowhere" not in calls[0], calls
+        assert (got.status, len(calls)) == (7 if fails else 0, fails or len(steps))
+        assert all(map(str.endswith, calls, steps)) and ("stored" in got.stdout) == (calls[-1] == "rt|try"), calls
         assert script != "tools/test" or got.stdout.count(": failed with status 7\n") == bool(fails), got.stdout
 
 
 # Where `make` has a variable, it is another one than the default.
 @pytest.mark.parametrize(("goal", "last"), [
     ("try", "tools/try"), ("run", "tools/build"), ("lib", "tools/library"), ("test", "tools/test"),
-    ("check PYTEST=python3", "python3|-n|auto|-q|-m|check"), ("fuzz MINUTES=2", "tests/fuzz.py|--seconds|120"),
-    ("mutants COUNT=7", "tests/mutants.py|7"), ("docs", "tools/site/build"),
+    ("check PYTEST=python3", "python3|-n|auto|-q|-m|check"), ("docs", "tools/site/build"),
+    ("fuzz MINUTES=2", "tools/build tests/fuzz.py|--seconds|120"), ("mutants COUNT=7", "tests/mutants.py|7"),
     ("dist DIST=a/b", "tools/dist|a/b"), ("wheel DIST=a/b", "tools/dist|wheel|a/b")])
 def test_a_goal_of_make_calls_its_script(goal: str, last: str, top: pathlib.Path, folder: pathlib.Path) -> None:
-    """Also where there is a folder or a file of its name."""
-    for name in ("docs", "run", "check", "dist", "wheel"):
-        (folder / name).mkdir()
     got, calls = calls_of(["/usr/bin/make", *goal.split()], top, folder)
-    assert got.status == 0 and calls[-1:] == [last], calls
-
-
-def test_the_list_of_goals_is_whole(top: pathlib.Path) -> None:
-    listed = re.findall(r"^make (\S+)  ", output_of(["make", "-s", "help"], top), re.MULTILINE)
-    phony = re.findall(r"^\.PHONY: (.*)", (top / "Makefile").read_text(), re.MULTILINE)
-    assert sorted(listed) == sorted(" ".join(phony).split())
+    assert got.status == 0 and " ".join(calls).endswith(last), calls
 
 
 def test_the_library_is_made_by_the_compiler_that_is_named(top: pathlib.Path, folder: pathlib.Path) -> None:
@@ -124,6 +122,9 @@ def test_the_library_is_made_by_the_compiler_that_is_named(top: pathlib.Path, fo
         assert {path.name: path.read_text() for path in (folder / "lib" / "out").iterdir()} == dict.fromkeys(
             ("libpfs.a", "libpfs.so.1"), f"{due}\n")
     assert [call.count("|-g|-Og|") for call in calls if call.startswith("my-cc|")] == [1, 1, 0]
+    (folder / "crates" / "pfs_c" / "out" / "libpfs_c.a").unlink()
+    got = run_tool(["tools/library"], folder)
+    assert got.status == 1 and "tools/build pfs_c" in got.stderr
 
 
 # Packages
@@ -147,46 +148,33 @@ def test_each_list_adds_to_the_one_before(top: pathlib.Path, folder: pathlib.Pat
 APT = """#!/bin/sh
 echo debconf: delaying package configuration
 case $* in
+*' update') exit 100 ;;
 *assume-no*)
     echo '0 upgraded, 55 newly installed, 0 to remove and 3 not upgraded.'
     echo 'Need to get 60.5 MB of archives.'
     exit 1 ;;
-*' -y --no-install-recommends nosuch munge') exit {status} ;;
+*' -y --no-install-recommends nosuch munge') {ends} ;;
 esac
 """
 
 
-@pytest.mark.parametrize("status", [0, 100])
-def test_what_is_installed_is_on_one_line(status: int, top: pathlib.Path, folder: pathlib.Path) -> None:
+@pytest.mark.parametrize("ends", ["exit 0", "exit 100", "kill -INT $PPID"])
+def test_what_is_installed_is_on_one_line(ends: str, top: pathlib.Path, folder: pathlib.Path) -> None:
     """And of a server, what becomes of it. The packages are still missing after it, as this apt installs nothing."""
     script = (top / "tools" / "setup").read_text().replace("/usr/sbin/policy-rc.d", str(folder / "policy"))
     script = script.replace('if [ "$(id -u)" = 0 ]; then "$@"; else sudo -n "$@"; fi', '"$@"')
     write_script(folder / "tools" / "setup", script)
     (folder / "tools" / "packages").write_text("== try: nothing\nnosuch  command nosuch\nmunge  command nosuch sh\n")
-    write_script(folder / "apt-get", APT.format(status=status))
+    write_script(folder / "apt-get", APT.format(ends=ends))
     env = {"PATH": f"{folder}:/usr/bin:/bin", "TMPDIR": str(folder)}
     got = run_tool(["sh", "tools/setup", "try"], folder, env=env)
     first, *others = got.stderr.splitlines()
     log, = folder.glob("tmp.*")
     assert first == f"setup: installing 55 packages, 60.5 MB for nosuch munge (what apt says is in {log})"
     assert got.stdout == "" and log.read_text().count("debconf") > 1 and not (folder / "policy").exists()
-    assert others[-1:] == (["debconf: delaying package configuration"] if status else
-                           ["setup: these packages are still incomplete: nosuch munge"])
-    assert status or len(others) == 2 and others[0].startswith("setup: the server of munge isn't started now")
-
-
-def test_who_is_not_root_gets_the_command(top: pathlib.Path, folder: pathlib.Path) -> None:
-    """Where `sudo` would ask for a password. Nothing is said if nothing is missing."""
-    for name in ("apt-get", "sudo"):
-        write_script(folder / name, "#!/bin/sh\nexit 1\n")
-    write_script(folder / "id", "#!/bin/sh\necho 1000\n")
-    write_script(folder / "tools" / "setup", (top / "tools" / "setup").read_text())
-    for command, line in (("nosuch", "apt-get install --no-install-recommends package\n"), ("sh", "")):
-        (folder / "tools" / "packages").write_text(f"== try: nothing\npackage  command {command}\n")
-        got = run_tool(["sh", "tools/setup", "try"], folder, env=with_path(folder))
-        assert (got.status, got.stdout) == (1 if line else 0, "") and got.stderr.endswith(line)
-        assert got.stderr.count("\n") == (2 if line else 0)
-    assert run_tool(["sh", "tools/setup", "--missing", "all", "try"], folder, env=with_path(folder)).status == 2
+    assert others[-1:] == {"exit 0": ["setup: these packages are still incomplete: nosuch munge"],
+                           "exit 100": ["debconf: delaying package configuration"]}.get(ends, []) and got.status == 1
+    assert ends != "exit 0" or len(others) == 2 and others[0].startswith("setup: the server of munge isn't started now")
 
 
 def test_what_the_tests_need_is_in_a_package(top: pathlib.Path) -> None:
@@ -198,3 +186,4 @@ def test_what_the_tests_need_is_in_a_package(top: pathlib.Path) -> None:
     assert len(names) > 15 and {name for name in names if package_of(name) is None} == set()
     listed = [package.name for package in packages()]
     assert len(listed) > 30 and len(listed) == len(set(listed))
+    assert not in_ci() or output_of([top / "tools" / "setup", "--missing", "all"], top) == "\n", "all are installed"

@@ -1,5 +1,6 @@
 """The site that `make docs` makes: it has each page, each public name of the package for Python and each name of the
 library's header, no link leads nowhere, and nothing of it is loaded from the network."""
+import os
 import pathlib
 import re
 import shutil
@@ -37,7 +38,9 @@ def site(top: pathlib.Path, tmp_path_factory: pytest.TempPathFactory) -> pathlib
     for module in ("sphinx", "numpydoc", "myst_parser", "numpy"):
         require_debian_module(module)
     folder = tmp_path_factory.mktemp("site").resolve() / "made"
-    assert run_tool([top / "tools" / "site" / "build", folder], top) == (0, f"{folder}/index.html\n", "")
+    env = os.environ | {"TMPDIR": str(folder.parent)}
+    assert run_tool([top / "tools" / "site" / "build", folder], top, env=env) == (0, f"{folder}/index.html\n", "")
+    assert [path.name for path in folder.parent.iterdir()] == ["made"], "what is left of the making"
     return folder
 
 
@@ -58,9 +61,7 @@ def test_no_link_leads_nowhere_and_nothing_is_loaded_from_elsewhere(site: pathli
 def test_the_first_page_leads_to_each_page(site: pathlib.Path) -> None:
     written = {str(page.relative_to(TOP).with_suffix(".html")) for pattern in ("*.md", "*/*.md", "docs/*/*.md")
                for page in TOP.glob(pattern)}
-    first = Page(site / "index.html")
-    assert written - {link.partition("#")[0] for link in first.links} == set()
-    assert any(each.partition("?")[0] == "_static/site.css" for each in first.loads), "wide tables don't scroll"
+    assert written - {link.partition("#")[0] for link in Page(site / "index.html").links} == set()
 
 
 def test_each_name_is_in_the_reference_and_found_by_a_search(site: pathlib.Path) -> None:
