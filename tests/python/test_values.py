@@ -145,7 +145,8 @@ def test_returned_arrays_are_read_only() -> None:
     assert shop.times.tolist() == [[3, 2], [2, 5], [4, 1]]
     made = shop.schedule([0, 1, 2])
     kept: Any
-    for kept in (shop.times, shop.neh().order, made.order, made.starts, made.ends):
+    current = shop.solve(1, method="iterated-greedy").current
+    for kept in (shop.times, shop.neh().order, made.order, made.starts, made.ends, current):
         with pytest.raises(ValueError, match="read-only"):
             kept[0] = 1
     for kept in (shop.times, shop.times.base):
@@ -154,12 +155,6 @@ def test_returned_arrays_are_read_only() -> None:
     for name in ("times", "jobs", "machines"):
         with pytest.raises(AttributeError):
             setattr(shop, name, getattr(shop, name))
-
-
-def test_a_frame_has_decimals() -> None:
-    pytest.importorskip("pandas")
-    frame = pfs.Instance([[25, 5]], decimals=1).schedule([0]).to_frame()
-    assert (frame["start"].tolist(), frame["end"].tolist()) == ([0, 2.5], [2.5, 3])
 
 
 def test_a_result_stays_as_it_is() -> None:
@@ -305,6 +300,7 @@ def test_jobs_by_their_names() -> None:
         assert shop.schedule(order).order.tolist() == [1, 0, 2]
         assert shop.solve(0, start=order).order.tolist() == [1, 0, 2]
     assert shop.makespan(["box"]) == 5 and shop.makespan([]) == 0
+    assert shop.solve(1, hold=["box", "table"]).order.tolist() == [2, 0, 1]
 
 
 @pytest.mark.parametrize(("order", "kind", "why"), [
@@ -373,16 +369,6 @@ def test_building_blocks_by_a_rule_for_ties(data: st.DataObject, case: tuple[pla
     for count, found in ((passes, once), (None, second_library.improved(plain, due, 0, jobs, 100, rule))):
         got = shop.local_search(due, jobs, passes=count, ties=ties)
         assert (got.jobs.tolist(), got.makespan) == (found, plainly.makespan(times, found))
-
-
-def test_a_number_of_passes_is_made_in_full() -> None:
-    """Of this instance the first pass gains nothing, and the second one moves jobs nevertheless."""
-    shop = pfs.Instance([[0, 0], [0, 1], [1, 0], [0, 1]])
-    once = shop.local_search(range(4), ties="idle")
-    twice = shop.local_search(once, ties="idle")
-    assert shop.makespan(range(4)) == once.makespan and once.jobs.tolist() != twice.jobs.tolist()
-    assert shop.local_search(range(4), passes=2, ties="idle").jobs.tolist() == twice.jobs.tolist()
-    assert shop.local_search(range(4), passes=None, ties="idle").jobs.tolist() == once.jobs.tolist()
 
 
 def test_a_sequence_is_taken_where_an_order_is() -> None:
