@@ -432,13 +432,14 @@ def test_the_methods_of_a_plan(folder: pathlib.Path, monkeypatch: pytest.MonkeyP
         assert (found["first"], found["early"]) == (0, 0.1 if found["prove"] == 1 else 0), words
 
 
-def test_a_proof_that_is_interrupted_or_fails_loses_no_order(folder: pathlib.Path,
-                                                            monkeypatch: pytest.MonkeyPatch) -> None:
+@pytest.mark.parametrize("seconds", ["0.1", "100"])
+def test_a_plan_or_proof_that_is_interrupted_or_fails_loses_no_order(folder: pathlib.Path, seconds: str,
+                                                                     monkeypatch: pytest.MonkeyPatch) -> None:
     shop = pfs.taillard(51)
     names = "".join(f",m{machine}" for machine in range(shop.machines))
     rows = (f"j{job}," + ",".join(map(str, row)) for job, row in enumerate(shop.times.tolist()))
     (folder / "hard.csv").write_text("\n".join([f"job{names}", *rows]))
-    process = start(["plan", "hard.csv", "--seconds", "0.1", "--prove", "60", "--schedule", "out.csv"], folder)
+    process = start(["plan", "hard.csv", "--seconds", seconds, "--prove", "60", "--schedule", "out.csv"], folder)
     time.sleep(3)
     process.send_signal(signal.SIGINT)
     begun = time.monotonic()
