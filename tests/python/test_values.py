@@ -371,6 +371,16 @@ def test_building_blocks_by_a_rule_for_ties(data: st.DataObject, case: tuple[pla
         assert (got.jobs.tolist(), got.makespan) == (found, plainly.makespan(times, found))
 
 
+def test_a_number_of_passes_is_made_in_full() -> None:
+    """Of this instance the first pass gains nothing, and the second one moves jobs nevertheless."""
+    shop = pfs.Instance([[0, 0], [0, 1], [1, 0], [0, 1]])
+    once = shop.local_search(range(4), ties="idle")
+    twice = shop.local_search(once, ties="idle")
+    assert shop.makespan(range(4)) == once.makespan and once.jobs.tolist() != twice.jobs.tolist()
+    assert shop.local_search(range(4), passes=2, ties="idle").jobs.tolist() == twice.jobs.tolist()
+    assert shop.local_search(range(4), passes=None, ties="idle").jobs.tolist() == once.jobs.tolist()
+
+
 def test_a_sequence_is_taken_where_an_order_is() -> None:
     """As the list of its jobs."""
     shop = pfs.taillard(1)
