@@ -24,7 +24,7 @@ def folder(tmp_path: pathlib.Path) -> pathlib.Path:
     return tmp_path
 
 
-def test_a_job_without_work_starts_and_ends_behind_the_one_before() -> None:
+def test_a_job_without_work_starts_and_ends_after_the_one_before() -> None:
     assert pfs.Instance([[3, 2], [0, 0]]).schedule([0, 1]).report().jobs[1] == ("1", 3, 3)
 
 
