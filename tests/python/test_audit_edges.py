@@ -244,7 +244,7 @@ def row(name: str, order: list[int], stated: int, method: str = "IG") -> dict[st
 
 
 def test_causes_that_a_makespan_is_close_to() -> None:
-    """No order takes less than the bound. Of a square instance a cause is reported once, and one off by one has none."""
+    """No order takes less than the bound; of a square instance a cause is reported once; one off by one has none."""
     one, square = pfs.taillard(1), pfs.generate(20, 20, 5)
     assert told([row("ta001", ORDER, 1200)]) == [f"no order takes less than {one.bound()}"]
     assert not any("less than" in text for text in told([row("ta001", ORDER, one.bound())]))
