@@ -26,6 +26,8 @@ ALWAYS: dict[str, Any] = {}
 BY_HAND: dict[str, tuple[str, dict[str, Any], int, int, str, str]] = {
     "to midnight": ("2026-11-30T06:00", {"shifts": "16:00-24:00"}, 0, 480, "2026-11-30 16:00", "2026-12-01 00:00"),
     "days alone": ("2026-12-04T23:00", {"days": "mon,fri"}, 60, 120, "2026-12-07 00:00", "2026-12-07 01:00"),
+    "the clocks change": ("2026-03-28T22:00", {"shifts": "22:00-06:00"}, 0, 480, "2026-03-28 22:00",
+                          "2026-03-29 06:00"),
     "around the clock on other days": ("2026-12-03T12:00", {"shifts": "fri:06:00-07:00", "days": "mon-thu"}, 720, 721,
                                        "2026-12-04 06:00", "2026-12-04 06:01"),
     "closed over the new year": ("2026-12-23T06:00", EARLY | {"closed": ["2026-12-24..2027-01-01", "2027-01-05"]}, 470,
