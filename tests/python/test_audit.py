@@ -96,17 +96,6 @@ def rows_of(*orders: Any, makespan: Any = 10) -> list[dict[str, Any]]:
     return [{"instance": "small", "makespan": makespan, "order": order} for order in orders]
 
 
-@pytest.mark.parametrize(("order", "verdict", "why"), [
-    ("2 1 999999999", "job out of range", "job 999999999 at place 3: the jobs are 1 to 3; job 3 is missing"),
-    ("2 1 2", "job twice", "job 2 at places 1 and 3; job 3 is missing"), ("2 1", "job missing", "job 3 is missing"),
-    ("3 1 2 3", "job twice", "job 3 at places 1 and 4"), ("1", "wrong size", "1 jobs, but the instance has 3"),
-    ("2 0 3", "job out of range", "job 0 at place 2")])
-def test_orders_that_are_wrong(order: Any, verdict: str, why: str) -> None:
-    [found, other] = pfs.audit(rows_of(order, "1 2 3", makespan=11), [SMALL])
-    assert (found.valid, found.makespan, found.verdict, why in found.why) == (False, None, verdict, True), found
-    assert other.valid and other.makespan == 11
-
-
 def test_the_first_job_is_that_of_most_orders_of_a_method() -> None:
     rows = [{"Problem": "small", "CMAX": 11, "Permutation": order, "method": method}
             for method, order in (("a", "0 1 2"), ("b", "1 2 3"), ("b", "1 2 3"), ("b", "0 1 2"), ("a", [2, 2, 0]))]

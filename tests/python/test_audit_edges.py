@@ -4,8 +4,7 @@ import io
 import pathlib
 import random
 import re
-import time
-from collections.abc import Callable, Sequence
+from collections.abc import Callable
 from typing import Any
 
 import numpy as np
@@ -15,26 +14,11 @@ import pytest
 from pfs._causes import Causes, Stated
 from pfs._orders import order_in
 from pfs.experiments import ExperimentError
-from pfs.experiments.__main__ import command_line
-from pfs.experiments.audit import audit
 from pfs.experiments.one import order_of
 from support import plainly
+from test_audit import SMALL, makespan, rows_of, run
 
 HEAD = ["instance", "method", "makespan", "order"]
-SMALL = pfs.Instance([[3, 2], [2, 5], [4, 1]], name="small.txt")
-
-
-def run(words: str) -> int:
-    """Run the command, and return its status."""
-    return audit(command_line().parse_args(["audit", *words.split()]))
-
-
-def makespan(shop: pfs.Instance, order: Sequence[int]) -> int:
-    return plainly.makespan(shop.times.tolist(), order)
-
-
-def rows_of(*orders: Any, makespan: Any = 10) -> list[dict[str, Any]]:
-    return [{"instance": "small", "makespan": makespan, "order": order} for order in orders]
 
 
 def book_of(path: pathlib.Path, **sheets: list[list[Any]]) -> None:
@@ -202,11 +186,7 @@ def test_names_of_columns(head: str, tmp_path: pathlib.Path) -> None:
     assert pfs.audit(tmp_path / "t", [SMALL])[0].valid
 
 
-def test_columns_that_are_missing_are_named_with_what_was_found(tmp_path: pathlib.Path) -> None:
-    (tmp_path / "t").write_text("Instance;Value;Seq\nsmall;10;2 1 3\n")
-    with pytest.raises(pfs.TableFault, match=re.escape("no column makespan (or Cmax), order (or sequence, permutation, "
-                                                       "Reihenfolge), but 'Instance', 'Value', 'Seq'")):
-        pfs.audit(tmp_path / "t")
+def test_columns_that_are_missing_are_named_with_what_was_found() -> None:
     with pytest.raises(ValueError, match="the table has no column order .*, but 'instance', 'makespan'"):
         pfs.audit(pandas.DataFrame({"instance": ["a"], "makespan": [1]}))
     assert pfs.audit([]) == [] and pfs.audit(pandas.DataFrame(columns=HEAD)) == []
@@ -263,27 +243,14 @@ def row(name: str, order: list[int], stated: int, method: str = "IG") -> dict[st
     return {"instance": name, "order": [job + 1 for job in order], "makespan": stated, "method": method}
 
 
-def test_causes_of_wrong_makespans() -> None:
-    one, other, square = pfs.taillard(1), pfs.taillard(2), pfs.generate(20, 20, 5)
-    takes, table = makespan(one, ORDER), [row("ta002", ORDER, makespan(other, ORDER))]
-    turned = square.times.T.tolist()
-    flat = [time for machine in one.times.T.tolist() for time in machine]
-    misread = [flat[job * 5:job * 5 + 5] for job in range(20)]
-    inverse = [ORDER.index(job) for job in range(20)]
-    ends = [makespan(one, ORDER[:count]) for count in range(1, 21)]
+def test_causes_that_a_makespan_is_close_to() -> None:
+    """No order takes less than the bound; of a square instance a cause is reported once; one off by one has none."""
+    one, square = pfs.taillard(1), pfs.generate(20, 20, 5)
     assert told([row("ta001", ORDER, 1200)]) == [f"no order takes less than {one.bound()}"]
     assert not any("less than" in text for text in told([row("ta001", ORDER, one.bound())]))
-    cases = [
-        (row("ta001", ORDER, makespan(one, ORDER[::-1])), "the reversed order takes {}"),
-        (row("ta001", ORDER, makespan(one, inverse)), "as the places of the jobs it takes {}"),
-        (row("ta001", ORDER, makespan(other, ORDER)), "the order takes {} on ta002"),
-        (row("ta001", ORDER, sum(ends)), "that is the sum of the completion times"),
-        (row("ta001", ORDER, 1278), "that is the best known makespan"),
-        (row("sq", ORDER, plainly.makespan(turned, ORDER)), "with jobs and machines exchanged it takes {}"),
-        (row("ta001", ORDER, plainly.makespan(misread, ORDER)), "with jobs and machines exchanged it takes {}")]
-    for each, text in cases:
-        assert text.format(each["makespan"]) in told([each, *table], {"sq": square}), each
-    assert told([row("ta001", ORDER, takes + 1), *table]) == []
+    stated = plainly.makespan(square.times.T.tolist(), ORDER)
+    assert told([row("sq", ORDER, stated)], {"sq": square}) == [f"with jobs and machines exchanged it takes {stated}"]
+    assert told([row("ta001", ORDER, makespan(one, ORDER) + 1)]) == []
 
 
 def test_rows_that_were_mistaken_for_others() -> None:
@@ -427,14 +394,3 @@ def test_how_many_causes_are_sought() -> None:
     assert len([*causes.on_others(rows[0], [0, 1])]) == 50
     two = [Stated("", "", "", count, pfs.Instance([[1]] * count)) for count in (100, 101)]
     assert [len(causes.pairs(row, [*range(row.makespan)])) for row in two] == [4_950, 100] and causes.orders == 495_050
-
-
-@pytest.mark.seconds(8)
-def test_thousands_of_wrong_rows_take_a_time_in_proportion(untraced: None) -> None:
-    """Each row has another instance, so that none may be tried on all of them."""
-    times = np.random.default_rng(1).integers(1, 100, (3_000, 100, 20), dtype=np.uint8)
-    shops = [pfs.Instance(each, name=f"i{at}") for at, each in enumerate(times)]
-    rows = [{"instance": f"i{at}", "makespan": 1, "order": list(range(1, 101))} for at in range(len(shops))]
-    begun = time.process_time()
-    assert {each.verdict for each in pfs.audit(rows, shops)} == {"wrong makespan"}
-    assert time.process_time() - begun < 9

@@ -9,12 +9,14 @@ import pickle
 import re
 import shutil
 import subprocess
+import sys
 import threading
 import time
 import timeit
 from collections.abc import Callable
 from concurrent.futures import ThreadPoolExecutor
 from typing import Any
+from unittest import mock
 
 import numpy as np
 import pfs
@@ -71,6 +73,12 @@ def test_a_library_without_a_function_and_a_file_that_is_none_are_rejected(tmp_p
     assert got.startswith(f"ImportError: pfs can't load its library {library} (")
     assert not isinstance(what, str) or f"undefined symbol: {what}" in got
     assert got.endswith("): PFS_LIBRARY names it")
+
+
+def test_a_library_that_is_missing(tmp_path: pathlib.Path, monkeypatch: pytest.MonkeyPatch) -> None:
+    monkeypatch.delenv("PFS_LIBRARY", raising=False)
+    with pytest.raises(ImportError, match="set PFS_LIBRARY to the path of"):
+        _library.load(str(tmp_path / "none"))
 
 
 def test_the_library_that_the_variable_names_goes_before_the_packages(monkeypatch: pytest.MonkeyPatch,
@@ -148,6 +156,20 @@ def test_an_instance_is_prepared_once_and_released_with_it(counted: dict[str, in
     del shop
     gc.collect()
     assert counted == {"pfs_prepare": 1, "pfs_release": 1}
+
+
+@pytest.mark.parametrize("name", ["Handle", "c_size_t", "byref", "np", "c_void_p", "done"])
+def test_an_interruption_of_the_preparation_leaves_nothing_to_release(name: str,
+                                                                      monkeypatch: pytest.MonkeyPatch) -> None:
+    """Wherever in it; an exception in `__del__` would be printed."""
+    caught: list[object] = []
+    monkeypatch.setattr(sys, "unraisablehook", caught.append)
+    stop = mock.MagicMock(side_effect=KeyboardInterrupt)
+    stop.empty = stop
+    with mock.patch.object(_library, name, stop), pytest.raises(KeyboardInterrupt):
+        pfs.generate(5, 2, 1).makespan([0])
+    gc.collect()
+    assert pfs.generate(5, 2, 1).makespan([0]) > 0 and caught == []
 
 
 @pytest.mark.parametrize("again", [copy.copy, copy.deepcopy, lambda shop: pickle.loads(pickle.dumps(shop))])

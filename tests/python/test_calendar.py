@@ -28,7 +28,6 @@ BY_HAND: dict[str, tuple[str, dict[str, Any], int, int, str, str]] = {
     "days alone": ("2026-12-04T23:00", {"days": "mon,fri"}, 60, 120, "2026-12-07 00:00", "2026-12-07 01:00"),
     "the clocks change": ("2026-03-28T22:00", {"shifts": "22:00-06:00"}, 0, 480, "2026-03-28 22:00",
                           "2026-03-29 06:00"),
-    "a short Friday": ("2026-12-03T06:00", SHORT, 830, 850, "2026-12-04 13:50", "2026-12-07 06:10"),
     "around the clock on other days": ("2026-12-03T12:00", {"shifts": "fri:06:00-07:00", "days": "mon-thu"}, 720, 721,
                                        "2026-12-04 06:00", "2026-12-04 06:01"),
     "closed over the new year": ("2026-12-23T06:00", EARLY | {"closed": ["2026-12-24..2027-01-01", "2027-01-05"]}, 470,
@@ -278,6 +277,8 @@ def test_units_that_have_no_dates(tmp_path: pathlib.Path, unit: str, why: str) -
         made.to_csv(calendar=calendar)
     with pytest.raises(ValueError, match=f"^{re.escape(why)}$"):
         made.plot(tmp_path / "chart.html", calendar=calendar)
+    with pytest.raises(ValueError, match=f"^{re.escape(why)}$"):
+        made.to_ics(tmp_path / "plan.ics", calendar)
     assert not list(tmp_path.iterdir())
 
 
@@ -286,17 +287,9 @@ def test_a_date_is_no_calendar() -> None:
         pfs.Instance([[1]], unit="h").schedule([0]).to_csv(calendar="2026-11-30")  # type: ignore[arg-type]
 
 
-def test_the_calendar_ends() -> None:
-    made = pfs.Instance([[10**9]], unit="h").schedule([0])
-    with pytest.raises(ValueError, match="^the schedule ends after the year 9999$"):
-        made.to_csv(calendar=pfs.Calendar("2026-11-30T06:00"))
-
-
 # Files
 
 @pytest.mark.parametrize(("unit", "decimals", "begin", "rows"), [
-    ("min", 0, "2026-11-30T06:00", ["a;x;2026-11-30 06:00;2026-11-30 06:30", "a;y;2026-11-30 06:30;2026-11-30 06:45"]),
-    ("h", 1, "2026-11-30T13:00", ["a;x;2026-11-30 13:00;2026-12-01 08:00", "a;y;2026-12-01 08:00;2026-12-01 09:30"]),
     ("min", 0, "2026-11-30T06:00:20", ["a;x;2026-11-30 06:00:20;2026-11-30 06:30:20",
                                        "a;y;2026-11-30 06:30:20;2026-11-30 06:45:20"]),
     ("s", 0, "2026-11-30T06:00", ["a;x;2026-11-30 06:00:00;2026-11-30 06:00:30",

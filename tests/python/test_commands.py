@@ -7,7 +7,6 @@ import json
 import os
 import pathlib
 import pty
-import random
 import re
 import shlex
 import shutil
@@ -57,13 +56,6 @@ def run(words: list[str], folder: pathlib.Path, status: int = 0, error: str = ""
     return printed
 
 
-def catches(process: int, number: signal.Signals) -> bool:
-    """Whether a process has said what it does on a signal."""
-    lines = pathlib.Path(f"/proc/{process}/status").read_text().splitlines()
-    caught = next(line for line in lines if line.startswith("SigCgt:"))
-    return bool(int(caught.split()[1], 16) >> (number - 1) & 1)
-
-
 def rounds_in(folder: pathlib.Path) -> int:
     """How far the state is, which is whole whenever one looks."""
     path = folder / "state"
@@ -84,17 +76,6 @@ def test_search_prints_what_the_program_does(folder: pathlib.Path, program: str,
     printed = run([*LONG, *words.split()], folder)
     assert child.communicate(timeout=60) == (printed.encode(), b"") and child.returncode == 0
     assert printed == plainly.run([program, "solve", "--layout", "taillard", *words.split(), str(folder / "shop")])
-
-
-def test_search_from_an_order_of_ones_own(folder: pathlib.Path, program: str) -> None:
-    shop = shop_in(folder)
-    order = list(range(60))
-    random.Random(1).shuffle(order)
-    pfs.Solution(order, shop.makespan(order)).write(folder / "order")
-    printed = run([*LONG, "--start", "order", "--rounds", "50", "--state", "state"], folder)
-    assert printed == shop.solve(50, start=order).to_text()
-    printed = run([*LONG, "--start", "order", "--rounds", "0"], folder)
-    assert printed == plainly.order_file(order, 10, shop.makespan(order))
 
 
 @pytest.mark.parametrize("number", [signal.SIGINT, signal.SIGTERM])
@@ -133,24 +114,6 @@ def test_the_status_is_that_of_the_first_signal(numbers: tuple[signal.Signals, .
     assert signal.getsignal(signal.SIGTERM) == signal.SIG_DFL
 
 
-@pytest.mark.seconds(10)
-def test_kill_leaves_a_whole_state(folder: pathlib.Path) -> None:
-    """Whenever it is killed: what was done is kept, and the end is the same."""
-    chance, done = random.Random(3), -1
-    for _ in range(6):
-        child = start([*LONG, "--state", "state"], folder)
-        before = done
-        wait_until(lambda: rounds_in(folder) > before, "rounds are made")
-        time.sleep(chance.random() * 0.3)
-        child.kill()
-        child.communicate()
-        assert rounds_in(folder) >= done
-        done = rounds_in(folder)
-    printed = run([*LONG, "--rounds", str(done + 10), "--state", "state"], folder)
-    assert printed == shop_in(folder).solve(done + 10).to_text()
-    assert {path.name for path in folder.iterdir()} <= {"shop", "state", "state.new"}, "a lock is left"
-
-
 def summed(state: dict[str, Any]) -> str:
     """The text of a state with the checksum of its other fields."""
     fields = {name: value for name, value in state.items() if name != "sum"}
@@ -170,8 +133,6 @@ OTHER_STATES: dict[str, tuple[Callable[[dict[str, Any]], str], str]] = {
     "an earlier version": (lambda state: summed(state | {"state": "pfs search 1"}),
                            "the state of a search by another version of pfs"),
     "other rounds": (lambda state: json.dumps(state | {"rounds": 3}), DAMAGED),
-    "other cells": (lambda state: json.dumps(state | {"cells": 3}), DAMAGED),
-    "another order": (lambda state: json.dumps(state | {"order": state["order"][::-1]}), DAMAGED),
     "no checksum": (lambda state: json.dumps({name: state[name] for name in state if name != "sum"}), DAMAGED),
     "another order's makespan": (lambda state: summed(state | {"order": state["order"][::-1]}), NOT_THE_INSTANCES),
     "another makespan": (lambda state: summed(state | {"makespan": state["makespan"] - 1}), NOT_THE_INSTANCES),
@@ -253,6 +214,17 @@ def test_two_searches_with_one_state(folder: pathlib.Path) -> None:
     # A lock that a search left which was killed is none.
     (folder / "state.lock").write_text("")
     run([*LONG, "--state", "state", "--rounds", str(done + 1)], folder)
+
+
+def test_a_state_has_one_lock_whatever_link_leads_to_it(tmp_path: pathlib.Path) -> None:
+    shop = pfs.generate(5, 2, 1)
+    (tmp_path / "link").symlink_to("state")
+    search = _search.Search(shop, None, 0, None, 0, 0)
+    with _state.State(str(tmp_path / "state"), shop, search):
+        with pytest.raises(_state.StateInUse, match="link: another search is using this state"), \
+                _state.State(str(tmp_path / "link"), shop, search):
+            raise AssertionError
+    assert sorted(os.listdir(tmp_path)) == ["link"]
 
 
 def test_a_lock_whose_file_another_search_removes_is_taken_again(folder: pathlib.Path,
@@ -363,12 +335,12 @@ def test_the_ending_of_a_schedule_says_how_it_is_written() -> None:
     *((each, 0) for each in (".cs", ".ts", ".tx", ".xls", ".ic"))])
 def test_the_endings_of_schedules_and_tables(tmp_path: pathlib.Path, ending: str, takes: int) -> None:
     path = str(tmp_path / f"a{ending}")
-    for at, what in enumerate(("schedule", "table")):
+    for at, what in enumerate(("schedule ends with .csv, .ics or .xlsx", "table ends with .csv or .xlsx")):
         outputs = [path][:1 - at], [path][:at]
         if at < takes:
             _commands.check_outputs([], outputs[0], [], outputs[1])
             continue
-        with pytest.raises(ValueError, match=f"a{ending}: the name of a {what} ends with .csv"):
+        with pytest.raises(ValueError, match=f"a{ending}: the name of a {what}$"):
             _commands.check_outputs([], outputs[0], [], outputs[1])
 
 
@@ -394,12 +366,15 @@ def asked(folder: pathlib.Path, monkeypatch: pytest.MonkeyPatch, words: list[str
 
 
 def test_a_plan_is_searched_for_its_seconds(folder: pathlib.Path, monkeypatch: pytest.MonkeyPatch) -> None:
-    """No longer than until it is optimal, and with another seed after the last round of one."""
-    (folder / "times.csv").write_text(TABLE)
+    """No longer than until it is optimal or proved, also from an order, and with another seed after the last round of
+    one."""
     begun = time.monotonic()
-    assert "\noptimal\n" in run(["plan", "times.csv", "--seconds", "50"], folder)
-    assert time.monotonic() - begun < 20
-    (folder / "times.csv").write_text(ABOVE_BOUND)
+    for table in (TABLE, ABOVE_BOUND):
+        (folder / "times.csv").write_text(table)
+        assert "\noptimal\n" in run(["plan", "times.csv", "--seconds", "50"], folder)
+    (folder / "order").write_text("d\nc\nb\na\n")
+    assert "\noptimal\n" in run(["plan", "times.csv", "--order", "order", "--seconds", "50"], folder)
+    assert time.monotonic() - begun < 30
     seeds, run_part = set[int](), _search.Search.run_part
 
     def noted(search: _search.Search, part: _rounds.Part, count: int) -> None:
@@ -438,16 +413,6 @@ def test_a_plan_is_proved_optimal(folder: pathlib.Path) -> None:
         assert run([*words[:2], *others], folder).splitlines()[:3] == proved[:3], others
 
 
-def test_a_plan_that_is_proved_at_once_is_not_searched(folder: pathlib.Path) -> None:
-    """Also from an order."""
-    (folder / "times.csv").write_text(ABOVE_BOUND)
-    begun = time.monotonic()
-    proved = run(["plan", "times.csv", "--seconds", "50"], folder)
-    (folder / "order").write_text(proved)
-    assert "\noptimal\n" in proved == run(["plan", "times.csv", "--order", "order", "--seconds", "50"], folder)
-    assert time.monotonic() - begun < 20
-
-
 def test_the_methods_of_a_plan(folder: pathlib.Path, monkeypatch: pytest.MonkeyPatch) -> None:
     (folder / "times.csv").write_text(TABLE)
     (folder / "order").write_text("table\nchair\n")
@@ -467,19 +432,22 @@ def test_the_methods_of_a_plan(folder: pathlib.Path, monkeypatch: pytest.MonkeyP
         assert (found["first"], found["early"]) == (0, 0.1 if found["prove"] == 1 else 0), words
 
 
-def test_a_proof_that_is_interrupted_or_fails_loses_no_order(folder: pathlib.Path,
-                                                            monkeypatch: pytest.MonkeyPatch) -> None:
+@pytest.mark.parametrize("seconds", ["0.1", "100"])
+def test_a_plan_or_proof_that_is_interrupted_or_fails_loses_no_order(folder: pathlib.Path, seconds: str,
+                                                                     monkeypatch: pytest.MonkeyPatch) -> None:
     shop = pfs.taillard(51)
     names = "".join(f",m{machine}" for machine in range(shop.machines))
     rows = (f"j{job}," + ",".join(map(str, row)) for job, row in enumerate(shop.times.tolist()))
     (folder / "hard.csv").write_text("\n".join([f"job{names}", *rows]))
-    process = start(["plan", "hard.csv", "--seconds", "0.1", "--prove", "60"], folder)
-    time.sleep(3)
+    process = start(["plan", "hard.csv", "--seconds", seconds, "--prove", "60", "--schedule", "out.csv"], folder)
+    assert process.stderr and process.stderr.readline()
+    time.sleep(1)
     process.send_signal(signal.SIGINT)
     begun = time.monotonic()
     out, _ = process.communicate(timeout=30)
     assert process.returncode == 130 and time.monotonic() - begun < 10
     assert out.startswith(b"makespan ") and b"optimal" not in out and len(out.splitlines()) == 52
+    assert len((folder / "out.csv").read_text().splitlines()) == 1001, "the schedule is lost"
     monkeypatch.setattr(_library.library, "pfs_prove", lambda *_: _library.MEMORY)
     monkeypatch.chdir(folder)
     assert _commands.main(["plan", "hard.csv", "--seconds", "0.1"]) == 4
@@ -785,8 +753,6 @@ REJECTED = [
     (f"{PLAN} --schedule=", 4, "Is a directory"),
     (f"{PLAN} --order order.html --chart order.html", 3, f"order.html {READ}"),
     (f"{PLAN} --compare order.html --chart order.html", 3, f"order.html {READ}"),
-    (f"{PLAN} --schedule out.ods", 3, "out.ods: the name of a schedule ends with .csv, .ics or .xlsx"),
-    (f"{PLAN} --schedule out.html", 3, "out.html: the name of a schedule ends with .csv, .ics or .xlsx"),
     (f"{PLAN} --schedule out.xlsx", 4,
      "writing a workbook needs openpyxl (Debian: python3-openpyxl; pip install 'pfs[workbooks]')"),
     (f"{PLAN} --schedule none/out.csv", 4, "none/out.csv" + NOT_THERE),
@@ -814,7 +780,6 @@ REJECTED = [
     (f"{PLAN} --shift 06:00-14:00", 3, "--shift needs --begin, which says when the work begins"),
     (f"{PLAN} --days mon-fri", 3, "--days needs --begin, which says when the work begins"),
     (f"{PLAN} --closed 2026-12-24", 3, "--closed needs --begin, which says when the work begins"),
-    (f"{PLAN} {BEGIN} --shift 06:00-14:00,13:00-20:00", 3, "shifts overlap on Mon 2026-11-30 at 13:00"),
     (f"plan plain.csv {BEGIN}", 3, "the times have no unit, which dates need: write min, h, s or d in brackets "
      "into the first cell of the table, as in 'job [min]', or set --unit"),
     (f"plan plain.csv {BEGIN} --days mon-fri --unit days", 3,
@@ -958,34 +923,6 @@ def test_words_that_a_terminal_would_take_for_commands(folder: pathlib.Path, wor
     (folder / "x.csv").write_text("job,saw\na,1\n")
     status, _, got = ended(words, folder)
     assert status in (3, 4) and all(line.isprintable() for line in got.splitlines()), repr(got)
-
-
-@pytest.mark.parametrize("ending", ["svg", "html", "png"])
-def test_a_table_whose_name_is_not_utf_8(folder: pathlib.Path, ending: str) -> None:
-    """Neither the order nor a chart that was there is lost."""
-    name = os.fsdecode(b"pl\xe4n.csv")
-    (folder / name).write_text(TABLE)
-    chart = folder / os.fsdecode(b"ch\xe4rt." + ending.encode())
-    chart.write_text("the old one")
-    printed = run(["plan", name, "--chart", chart.name, "--schedule", os.fsdecode(b"s\xe4.csv")], folder)
-    assert printed.splitlines()[-4:] == ["1 box", "2 table", "3 chair", "4 shelf; oak"]
-    assert chart.stat().st_size > 1000 and (folder / os.fsdecode(b"s\xe4.csv")).exists()
-
-
-def test_a_plan_that_is_interrupted(folder: pathlib.Path) -> None:
-    rows = [[f"job {at}", *(str(time) for time in row)] for at, row in enumerate(pfs.generate(60, 20, 4).times)]
-    text = "\n".join(",".join(row) for row in [["job", *(f"machine {at}" for at in range(20))], *rows])
-    (folder / "times.csv").write_text(text + "\n")
-    child = start(["plan", "times.csv", "--seconds", "100", "--schedule", "out.csv"], folder)
-    wait_until(lambda: catches(child.pid, signal.SIGTERM), "the search handles the signal")
-    time.sleep(0.5)
-    child.send_signal(signal.SIGTERM)
-    printed, got = child.communicate(timeout=30)
-    assert (child.returncode, without_summary(got.decode())) == (128 + signal.SIGTERM, "")
-    order = [int(job) for job in re.findall(r"^\d+ job (\d+)$", printed.decode(), re.MULTILINE)]
-    assert sorted(order) == list(range(60))
-    assert printed.decode().startswith(f"makespan {pfs.generate(60, 20, 4).makespan(order)}\n")
-    assert len((folder / "out.csv").read_text().splitlines()) == 1201
 
 
 # The console program pfs-plan

@@ -4,7 +4,6 @@ import pathlib
 from typing import Any
 
 import pfs
-import pytest
 from support.commands import ended
 from support.needs import require_module
 
@@ -45,10 +44,3 @@ def test_a_plan_writes_calendars(tmp_path: pathlib.Path) -> None:
         3, "", "pfs: a schedule with the ending .ics needs --begin, which says when the work begins\n")
     assert ended([*words, "--begin", "2026-11-30"], tmp_path)[0] == 0
     assert len(events(tmp_path / "plan-drill.ics")) == 2
-
-
-@pytest.mark.parametrize("unit", ["", "pieces"])
-def test_calendars_need_a_unit_of_time(tmp_path: pathlib.Path, unit: str) -> None:
-    with pytest.raises(ValueError, match="which dates need"):
-        pfs.Instance([[1]], unit=unit).schedule([0]).to_ics(tmp_path / "plan.ics", pfs.Calendar("2026-11-30"))
-    assert not list(tmp_path.iterdir())

@@ -366,13 +366,6 @@ def test_taillards_instances_are_those_of_the_lists() -> None:
         assert shop.upper >= shop.lower
 
 
-@pytest.mark.parametrize("number", [1, 31, 61, 120])
-def test_taillards_instances_are_the_programs(program: str, number: int) -> None:
-    shop = pfs.taillard(number)
-    shop.lower = shop.upper = 0
-    assert shop.to_text() == plainly.run([program, "generate", str(shop.jobs), str(shop.machines), str(shop.seed)])
-
-
 # The layout "matrix": the sizes on one line, and then a line of times for each job
 
 def matrix_of(text: str) -> pfs.Instance:

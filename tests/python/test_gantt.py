@@ -379,14 +379,6 @@ def test_the_title_is_the_one_given(folder: pathlib.Path, words: list[str], due:
     assert drawn(folder, *words).title == due
 
 
-@pytest.mark.parametrize("unit", ["$x_{$", "$x$", "\\$", "a < b & c", "\u00b5s"])
-def test_a_unit_is_text(unit: str, folder: pathlib.Path) -> None:
-    """And no formula."""
-    label = drawn(folder, "--unit", unit).axis.xaxis.label
-    assert label.get_text() == f"time ({unit})" and not label.get_parse_math()
-    assert gantt(folder, "--unit", unit, "table", "picture.png") == Done(0, "", "")
-
-
 @pytest.mark.parametrize(("words", "text", "size"), [
     ([], THREE, (1320, 235)), (["--width", "2"], THREE, (220, 235)), (["--dpi", "300"], THREE, (3600, 642)),
     (["--dpi", "20"], f"table 1 200\n1{' 0 0' * 200}\nmakespan 0\n", (240, 266)),

@@ -24,11 +24,8 @@ def folder(tmp_path: pathlib.Path) -> pathlib.Path:
     return tmp_path
 
 
-def test_a_report_by_hand(folder: pathlib.Path) -> None:
-    report = pfs.read_csv(folder / "times.csv").schedule([0, 1, 2]).report()
-    assert [tuple(each) for each in report.machines] == MACHINES
-    assert ([tuple(each) for each in report.jobs], report.bottleneck) == (JOBS, "drill")
-    assert pfs.Instance([[3, 2], [0, 0]]).schedule([0, 1]).report().jobs[1] == ("1", 3, 3), "a job without work"
+def test_a_job_without_work_starts_and_ends_after_the_one_before() -> None:
+    assert pfs.Instance([[3, 2], [0, 0]]).schedule([0, 1]).report().jobs[1] == ("1", 3, 3)
 
 
 @given(plainly.shops_and_orders())

@@ -48,13 +48,6 @@ def test_pairs_of_machines_raise_the_bound() -> None:
     assert is_raised > 30 and is_same > 20
 
 
-def test_published_optima() -> None:
-    for number in (1, 2, 11):
-        shop = pfs.taillard(number)
-        best = shop.optimum(60)
-        assert (best.makespan, best.bound) == (shop.upper, shop.upper) and shop.makespan(best) == shop.upper
-
-
 def test_without_a_proof_nothing_is_optimal_but_at_the_bound() -> None:
     shop = pfs.Instance([[1, 4, 0], [2, 0, 3], [3, 3, 5], [3, 1, 0]])
     least = shop.optimum().makespan
@@ -189,18 +182,13 @@ def test_a_call_that_is_left_behind_keeps_no_program_from_ending(tmp_path: Any) 
     ({"prove": "1"}, TypeError, "prove must be a number of seconds, not '1'"),
     ({"prove": True}, TypeError, "prove must be a number of seconds, not True"),
     ({"prove": 1, "hold": [0]}, ValueError, "prove needs a search without hold and move"),
-    ({"prove": 1, "move": [0]}, ValueError, "prove needs a search without hold and move")])
+    ({"prove": 1, "move": [0]}, ValueError, "prove needs a search without hold and move"),
+    ({"seconds": -1}, ValueError, "seconds must be 0 or more seconds, not -1.0"),
+    ({"seconds": None}, TypeError, "seconds must be a number of seconds, not None")])
 def test_what_is_rejected(words: dict[str, Any], kind: type[Exception], why: str) -> None:
+    shop = pfs.taillard(1)
     with pytest.raises(kind, match=f"^{why}$"):
-        pfs.taillard(1).solve(1, **words)
-
-
-def test_seconds_that_are_rejected() -> None:
-    seconds: Any
-    for seconds, why in ((-1, "seconds must be 0 or more seconds, not -1.0"), (None, "seconds must be a number of"),
-                         (np.bool_(True), "seconds must be a number of seconds, not True")):
-        with pytest.raises((TypeError, ValueError), match=f"^{why}"):
-            pfs.taillard(1).optimum(seconds)
+        shop.optimum(**words) if "seconds" in words else shop.solve(1, **words)
 
 
 def test_the_greatest_bound_is_kept() -> None:

@@ -196,8 +196,6 @@ WRONG = [
      "--down: 'saw' is up again by then (2026-12-01T08:10)"),
     (["--order", "gone", "--now", "2026-12-01T08:10"],
      "gone: the table has no job 'desk', but 'lamp' after it has begun: leave jobs that have begun in the table"),
-    (["--rest", "times.csv"], "times.csv is read, and writing would replace it: name another file"),
-    (["--rest", "rest.ods"], "rest.ods: the name of a table ends with .csv or .xlsx"),
 ]
 
 

@@ -123,6 +123,7 @@ REJECTED: dict[Callable[[Any], object], list[tuple[Any, type[Exception], str]]] 
     SHOP.schedule: [
         ([0, 1], ValueError, "order has 2 jobs, but the instance has 3"),
         ([0, 1, 2, 0], ValueError, "order has 4 jobs, but"), ([], ValueError, "order has 0 jobs, but"),
+        (pfs.Solution([0, 1, 2], 11, 0, 3), ValueError, "^order is an order for 3 machines, but the instance has 2$"),
         ([0, 1, 0], ValueError, "order: job 0 occurs twice, at places 0 and 2")],
     lambda given: SHOP.places(*given): INSERTIONS, lambda given: SHOP.best_place(*given): INSERTIONS,
     SHOP.makespans: [

@@ -151,7 +151,8 @@ def test_returned_arrays_are_read_only() -> None:
     assert shop.times.tolist() == [[3, 2], [2, 5], [4, 1]]
     made = shop.schedule([0, 1, 2])
     kept: Any
-    for kept in (shop.times, shop.neh().order, made.order, made.starts, made.ends):
+    current = shop.solve(1, method="iterated-greedy").current
+    for kept in (shop.times, shop.neh().order, made.order, made.starts, made.ends, current):
         with pytest.raises(ValueError, match="read-only"):
             kept[0] = 1
     for kept in (shop.times, shop.times.base):
@@ -160,12 +161,6 @@ def test_returned_arrays_are_read_only() -> None:
     for name in ("times", "jobs", "machines"):
         with pytest.raises(AttributeError):
             setattr(shop, name, getattr(shop, name))
-
-
-def test_a_frame_has_decimals() -> None:
-    pytest.importorskip("pandas")
-    frame = pfs.Instance([[25, 5]], decimals=1).schedule([0]).to_frame()
-    assert (frame["start"].tolist(), frame["end"].tolist()) == ([0, 2.5], [2.5, 3])
 
 
 def test_a_result_stays_as_it_is() -> None:
@@ -311,6 +306,7 @@ def test_jobs_by_their_names() -> None:
         assert shop.schedule(order).order.tolist() == [1, 0, 2]
         assert shop.solve(0, start=order).order.tolist() == [1, 0, 2]
     assert shop.makespan(["box"]) == 5 and shop.makespan([]) == 0
+    assert shop.solve(1, hold=["box", "table"]).order.tolist() == [2, 0, 1]
 
 
 @pytest.mark.parametrize(("order", "kind", "why"), [

@@ -37,7 +37,7 @@ def fault_of(path: pathlib.Path, **words: Any) -> tuple[int, int, str]:
 
 
 def test_workbooks_are_read_and_written(tmp_path: pathlib.Path) -> None:
-    """Numbers have points, times of day and lengths of time are hours and minutes, and rows count as in the sheet."""
+    """Numbers have points, lengths of time are hours and minutes, and rows count as in the sheet."""
     rows: list[list[object]] = [["Week 49"], [], ["Job [h]", "saw", None, "drill"], ["a, 1", 1.1 + 2.2, None, 1250],
                                 ["b\n2", 0.125, None, 0]]
     shop = pfs.read_csv(book_of(tmp_path / "numbers.xlsx", *rows))
@@ -45,9 +45,6 @@ def test_workbooks_are_read_and_written(tmp_path: pathlib.Path) -> None:
     assert (shop.times.tolist(), shop.decimals) == ([[3300, 1250000], [125, 0]], 3)
     with pytest.raises(pfs.TableFault, match="cell D5, column 'drill': 'soon' isn't a time"):
         pfs.read_csv(book_of(tmp_path / "numbers.xlsx", *rows[:4], ["b", 1, None, "soon"]))
-    hours = book_of(tmp_path / "hours.xlsx", ["job", "saw", "drill"],
-                    ["a", datetime.time(1, 30), datetime.timedelta(days=70)], ["b", 0, datetime.time(0, 5)])
-    assert pfs.read_csv(hours).times.tolist() == [[90, 100800], [0, 5]]
     shop = pfs.Instance([[15, 10]], job_names=["=1+1"], machine_names=["saw", "a\x1b"], unit="h", decimals=1)
     shop.schedule([0]).to_xlsx(tmp_path / "out.xlsx")
     sheet = openpyxl.load_workbook(tmp_path / "out.xlsx").active
