@@ -17,7 +17,6 @@ import time
 import types
 from collections.abc import Callable, Iterator
 from typing import Any
-from unittest import mock
 
 import pfs
 import pytest
@@ -176,6 +175,7 @@ def test_a_state_is_for_the_options_of_its_search(folder: pathlib.Path, before: 
     (folder / "shop").write_text(shop_in(folder).to_text() + pfs.generate(60, 10, 5).to_text())
     words = [*LONG, "--state", "state", "--rounds", "5", *before.split()]
     printed, kept = run(words, folder), (folder / "state").read_bytes()
+    assert "--start" not in before or printed == shop_in(folder).solve(5, start=range(60)).to_text()
     run([*LONG, "--state", "state", "--rounds", "9", *after.split()], folder, 2, f"pfs: state: {why}\n")
     assert (folder / "state").read_bytes() == kept
     assert run([*words, *([] if "--take" in before else ["--take", "4"])], folder) == printed
@@ -318,16 +318,6 @@ def test_the_progress_of_a_proof(monkeypatch: pytest.MonkeyPatch) -> None:
     monkeypatch.setattr(_commands.ProgressLine, "show", lambda _, line: lines.append(line))
     assert call(5, search, "best", [2]) == (None, None) and asked == [(search.shop, "best", 5, True)]
     assert lines == ["proving that no order is shorter, 0:00:03 left", ""]
-
-
-def test_the_ending_of_a_schedule_says_how_it_is_written() -> None:
-    shop, calendar, best = mock.Mock(), pfs.Calendar("2026-11-30"), pfs.Solution([0], 1)
-    for path in ("a.XLSX", "b.ICS", "c.csv"):
-        _commands.write_schedule(shop, best, path, ";", True, calendar, "de")
-    same = {"calendar": calendar, "language": "de"}
-    assert shop.schedule.return_value.mock_calls == [
-        mock.call.to_xlsx("a.XLSX", **same), mock.call.to_ics("b.ICS", calendar),
-        mock.call.to_csv("c.csv", ";", mark=True, **same)]
 
 
 @pytest.mark.parametrize(("ending", "takes"), [

@@ -39,8 +39,8 @@ def test_each_machine_has_a_calendar(tmp_path: pathlib.Path) -> None:
 
 def test_a_plan_writes_calendars(tmp_path: pathlib.Path) -> None:
     (tmp_path / "times.csv").write_text("job [min];saw;drill\ntable;300;200\nchair;250;400\n")
-    words = ["plan", "times.csv", "--schedule", "plan.ics"]
+    words = ["plan", "times.csv", "--schedule", "plan.ICS"]
     assert ended(words, tmp_path) == (
         3, "", "pfs: a schedule with the ending .ics needs --begin, which says when the work begins\n")
-    assert ended([*words, "--begin", "2026-11-30"], tmp_path)[0] == 0
-    assert len(events(tmp_path / "plan-drill.ics")) == 2
+    assert ended([*words, "--begin", "2026-11-30", "--shift", "06:00-14:00"], tmp_path)[0] == 0
+    assert len(events(tmp_path / "plan-drill.ICS")) == 3, "the first job is continued on the next day"

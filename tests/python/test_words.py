@@ -35,7 +35,7 @@ def folder(tmp_path: pathlib.Path) -> pathlib.Path:
     return tmp_path
 
 
-@pytest.mark.parametrize("name", ["plan.csv", "plan.xlsx"])
+@pytest.mark.parametrize("name", ["plan.csv", "plan.XLSX"])
 def test_a_german_schedule_is_an_order(folder: pathlib.Path, name: str) -> None:
     plan = ended(["plan", "times.csv", *DATES, "--schedule", name, "--language", "de"], folder)
     assert plan[0] == 0
@@ -48,6 +48,7 @@ def test_a_german_schedule_is_an_order(folder: pathlib.Path, name: str) -> None:
         book = openpyxl.load_workbook(folder / name)
         assert book.sheetnames == ["Plan", "Maschinen", "Aufträge", "saw", "drill"]
         assert [cell.value for cell in book["saw"][1]] == ["Platz", "Auftrag", "Beginn", "Ende"]
+        assert book["saw"]["C2"].is_date
         assert book["Maschinen"]["C1"].value == "Auslastung %"
 
 

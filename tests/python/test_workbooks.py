@@ -258,10 +258,10 @@ def test_a_schedule_shows_seconds_where_there_are_some(tmp_path: pathlib.Path) -
 
 def test_all_schedules_are_written(tmp_path: pathlib.Path) -> None:
     book_of(tmp_path / "times.xlsx", ("job", "saw", "drill"), ("table", 3, 1), ("chair", 1, 2))
-    words = ["plan", "times.xlsx", *(f"--schedule={name}" for name in ("a.xlsx", "b.csv", "c.csv"))]
+    words = ["plan", "times.xlsx", *(f"--schedule={name}" for name in ("a.xlsx", "b.csv", "\udce4.csv"))]
     status, printed, got = ended(words, tmp_path)
     assert (status, got) == (0, "")
-    assert (tmp_path / "b.csv").read_bytes() == (tmp_path / "c.csv").read_bytes()
+    assert (tmp_path / "b.csv").read_bytes() == (tmp_path / "\udce4.csv").read_bytes()
     for name in ("a.xlsx", "b.csv"):
         assert ended(["plan", "times.xlsx", "--order", name], tmp_path) == (0, printed, "")
     (tmp_path / "d.csv").mkdir()
