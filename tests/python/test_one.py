@@ -49,10 +49,10 @@ def test_a_search_by_rounds_has_the_options_of_its_run(copies: pathlib.Path, mon
 SOUND = "printf 'valid\\nmakespan 10\\nbound 9\\n'"
 # What a program prints in the place of pfs, and why the run fails.
 OTHER_PROGRAMS = [
-    ("kill -HUP $$", "solve: signal 1"), ("printf 'a\\377\\nb\\n'; exit 1", "solve: exit 1, a\ufffd"),
+    ("kill -KILL $$", "solve: signal 9"), ("printf 'a\\377\\nb\\n'; exit 1", "solve: exit 1, a\ufffd"),
     ("echo a;echo b>&2;exit 4", "solve: exit 4, b"), ("exit 2", "solve: exit 2, "), ("printf '\\377'", "check: \ufffd"),
     ("echo o; echo cells 1; echo more", "solve: no cells printed"), ("exit 0", "check: no verdict"),
-    ("printf '\\377\\ncells 123456789012345678901\\n'", "solve: no cells printed"), ("kill -HUP $$", "check: signal 1"),
+    ("printf '\\377\\ncells 123456789012345678901\\n'", "solve: no cells printed"), ("kill -KILL $$", "check: signal 9"),
     (f"{SOUND}; exit 1", "check: exit 1, valid, makespan 10, bound 9"), (f"{SOUND}; echo a >&2", "check: a"),
     ("printf 'valid\\nmakespan 1\\nbound 9x'", "check: valid, makespan 1, bound 9x")]
 
