@@ -52,7 +52,8 @@ OTHER_PROGRAMS = [
     ("kill -KILL $$", "solve: signal 9"), ("printf 'a\\377\\nb\\n'; exit 1", "solve: exit 1, a\ufffd"),
     ("echo a;echo b>&2;exit 4", "solve: exit 4, b"), ("exit 2", "solve: exit 2, "), ("printf '\\377'", "check: \ufffd"),
     ("echo o; echo cells 1; echo more", "solve: no cells printed"), ("exit 0", "check: no verdict"),
-    ("printf '\\377\\ncells 123456789012345678901\\n'", "solve: no cells printed"), ("kill -KILL $$", "check: signal 9"),
+    ("printf '\\377\\ncells 123456789012345678901\\n'", "solve: no cells printed"),
+    ("kill -KILL $$", "check: signal 9"),
     (f"{SOUND}; exit 1", "check: exit 1, valid, makespan 10, bound 9"), (f"{SOUND}; echo a >&2", "check: a"),
     ("printf 'valid\\nmakespan 1\\nbound 9x'", "check: valid, makespan 1, bound 9x")]
 
