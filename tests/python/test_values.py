@@ -311,7 +311,7 @@ def test_jobs_by_their_names() -> None:
 
 @pytest.mark.parametrize(("order", "kind", "why"), [
     (["chair", "bed", "box"], ValueError, "'bed' at place 1 isn't the name of a job"),
-    (["chair", 0, "box"], TypeError, "0 at place 1 isn't a name, but others are"),
+    (["chair", 0, "box"], TypeError, "^(order|start): 0 at place 1 isn't a name, but others are"),
     (["chair", "table", "chair"], ValueError, "job 1 occurs twice, at places 0 and 2"),
     ([0, "table", "box"], TypeError, "(order|start) must be whole numbers")])
 def test_names_that_are_rejected(order: list[Any], kind: type[Exception], why: str) -> None:
