@@ -46,9 +46,19 @@ def client_of(found: searches.Searches) -> FlaskClient:
     return app.made({HOST, "planning.example"}, TOKEN, found).test_client()
 
 
+def client_here(found: searches.Searches) -> FlaskClient:
+    """Of a server that makes in this process what it makes apart, so that it is quick."""
+    def make(call: apart.Call, given: dict[str, Any]) -> Any:
+        with tempfile.TemporaryDirectory() as folder:
+            return call(given, folder)
+
+    with mock.patch.object(app, "Apart", lambda: make):
+        return client_of(found)
+
+
 @pytest.fixture(scope="module")
 def client() -> FlaskClient:
-    return client_of(searches.Searches(2))
+    return client_here(searches.Searches(2))
 
 
 def asked(client: FlaskClient, path: str, body: Any = None, method: str = "POST", **headers: str) -> TestResponse:
@@ -268,20 +278,17 @@ REQUESTS: list[tuple[str, dict[str, Any]]] = [
 @pytest.mark.seconds(5)
 @given(st.data())
 def test_no_value_at_any_place_is_a_fault_of_the_server(data: st.DataObject) -> None:
-    """What is apart is called here, so that it is quick."""
     found = searches.Searches(1)
-    with pytest.MonkeyPatch.context() as patch:
-        patch.setattr(apart.Apart, "result", lambda _, call, body, folder: call(body, folder))
-        client = client_of(found)
-        for path, body in REQUESTS:
-            place = data.draw(st.sampled_from([*leaves(body)]))
-            changed = copy.deepcopy({"": body})
-            at: Any = changed
-            for key in ("", *place)[:-1]:
-                at = at[key]
-            at[("", *place)[-1]] = data.draw(st.sampled_from(VALUES))
-            status, error = refused(client, path, changed[""])
-            assert status in (200, 400, 422, 429, 503), f"{path} with {changed['']}: {error}"
+    client = client_here(found)
+    for path, body in REQUESTS:
+        place = data.draw(st.sampled_from([*leaves(body)]))
+        changed = copy.deepcopy({"": body})
+        at: Any = changed
+        for key in ("", *place)[:-1]:
+            at = at[key]
+        at[("", *place)[-1]] = data.draw(st.sampled_from(VALUES))
+        status, error = refused(client, path, changed[""])
+        assert status in (200, 400, 422, 429, 503), f"{path} with {changed['']}: {error}"
     found.end_all()
 
 
