@@ -7,7 +7,7 @@ from collections.abc import Iterable, Mapping, Set
 from typing import Any
 
 # What stands before a list, as in `π = (3, 1, 2)`, and the list, perhaps in brackets.
-NAMED = re.compile(r"[^\W\d]\w*[*']?\s*[=:]")
+NAMED = re.compile(r"\s*[^\W\d]\w*[*']?\s*[=:]")
 LIST = re.compile(r"\[([^\[\](){}]*)\]|\(([^\[\](){}]*)\)|\{([^\[\](){}]*)\}|([^\[\](){}]*)")
 # A dash between two jobs, as in 3-1-2 and 3 - 1 - 2, or an arrow. That of -1 or of job-3 is no such dash.
 DASH = re.compile(r"(?<=[0-9])[-\u2013](?=\w)|(?<=\s)[-\u2013](?=\s)|->|\u2192")
@@ -18,10 +18,9 @@ JOB = re.compile(r"((?:[^\W\d_]+[_.-]?)?)([0-9]{1,9})(?:\.(?!000\Z)0*)?")
 def words_in(text: str) -> list[str]:
     """Return the words of a list. Where one is missing between commas or semicolons, it is empty.
 
-    >>> words_in("π = (J3; J1, J2)"), words_in("3-1-2"), words_in("3,,2")
+    >>> words_in(" π = (J3; J1, J2)"), words_in("3-1-2"), words_in("3,,2")
     (['J3', 'J1', 'J2'], ['3', '1', '2'], ['3', '', '2'])
     """
-    text = text.strip()
     named = NAMED.match(text)
     match = LIST.fullmatch(text[named.end() if named else 0:].strip())
     inside = DASH.sub(" ", match[match.lastindex or 0]).strip() if match else ""

@@ -357,7 +357,7 @@ def panels(points: pd.DataFrame, styles: dict[str, dict[str, Any]], columns: int
            title: str, legend: str) -> Figure:
     """Draws a line through the points of each label, perhaps with a band, in panels of equal scale, in rows of at most
     `columns`, and a legend of the labels below them. The values begin at 0 if none is less."""
-    titles = list(points["panel"].unique())
+    titles = points["panel"].unique()
     columns = min(columns, len(titles))
     width = width or max(6.5, 4.2 * columns)
     columns = max(1, min(columns, int(width / 2.2)))
