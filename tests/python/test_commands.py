@@ -296,14 +296,14 @@ LEFT: list[tuple[float | None, int | None, int, int, float, str]] = [
 @pytest.mark.parametrize(("limit", "rounds", "begun", "done", "spent", "left"), LEFT)
 def test_the_time_that_is_left(monkeypatch: pytest.MonkeyPatch, limit: float | None, rounds: int | None, begun: int,
                                done: int, spent: float, left: str) -> None:
-    now, lines = [0.0], list[str]()
+    now, lines = [7.0], list[str]()
     monkeypatch.setattr(_commands, "time", types.SimpleNamespace(monotonic=lambda: now[0]))
     search = _search.Search(pfs.Instance(pfs.taillard(1).times, unit="h:mm"), None, begun, None, 0, 0)
     progress = _commands.ProgressLine(search, rounds, limit)
     monkeypatch.setattr(progress, "shown", True)
     monkeypatch.setattr(progress, "show", lines.append)
     progress.update(begun, 1278)
-    now[0] = spent
+    now[0] += spent
     progress.update(done, 1278)
     assert limit or not lines[0].endswith("left"), "nothing is known of the time of a round yet"
     of = "" if rounds is None else f" of {rounds:,}"

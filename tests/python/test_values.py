@@ -266,7 +266,7 @@ def test_a_frame_keeps_its_names() -> None:
     assert (plain.job_names, plain.machine_names) == (None, None)
     assert pfs.Instance(frame.iloc[::-1].T).job_names == ("saw", "drill")
     with pytest.raises(ValueError, match="job_names: 'a' occurs twice"):
-        pfs.Instance(pandas.DataFrame([[1], [2]], index=["a", "a"]))
+        pfs.Instance(pandas.DataFrame([[1], [2], [3]], index=["b", "a", "a"]))
 
 
 @pytest.mark.parametrize(("times", "decimals", "due"), [
