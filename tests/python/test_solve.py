@@ -4,6 +4,7 @@ import itertools
 import math
 import pathlib
 import pickle
+import random
 import sys
 import threading
 import time
@@ -15,7 +16,7 @@ from unittest import mock
 import numpy as np
 import pfs
 import pytest
-from hypothesis import given
+from hypothesis import example, given
 from hypothesis import strategies as st
 from pfs import _commands, _library, _rounds, _search
 from support import plainly
@@ -518,6 +519,8 @@ def free_jobs(order: list[int], held: int, move: list[int] | None) -> list[int]:
        rounds=st.integers(0, 8), seed=st.integers(0, 2**64 - 1), held=st.integers(0, 5), partial=st.integers(0, 2),
        passes=st.integers(0, 2), ties=st.sampled_from(["first", "idle"]), temperature=st.sampled_from([0, 0.5, 3, 40]),
        moves=st.one_of(st.none(), st.sets(st.integers(0, 4))), chance=st.randoms(use_true_random=False))
+@example(case=([[3, 3, 0], [2, 4, 3], [3, 2, 3], [2, 4, 1], [4, 1, 2]], [0, 1, 2, 3, 4]), counts=[7], rounds=8, seed=1,
+         held=0, partial=0, passes=1, ties="idle", temperature=0, moves=None, chance=random.Random(1))  # not as "first"
 def test_rounds_that_accept_longer_orders(
         cut: Callable[[list[int]], None], case: tuple[plainly.Table, list[int]], counts: list[int], rounds: int,
         seed: int, held: int, partial: int, passes: int, ties: str, temperature: float, moves: set[int] | None,
