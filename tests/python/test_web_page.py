@@ -379,7 +379,7 @@ def test_what_the_page_asks_and_keeps(page: Page) -> None:
     press("0,forget")
     page.wait(lambda: len(page.all("#plans tr")) == 2)
     assert page.text("#plans tr:nth-child(2) td") == "two"
-    # A job that is renamed keeps its place. Instead of a place that no job can have, the old one is there again.
+    # A job that is renamed keeps its place. Where a place is none of a job, the field shows the old one again.
     before = [each.replace("J12", "K12") for each in run("return doc.order")]
     page.write(page.key("13,1"), "K12")
     page.wait(lambda: page.order() == before)
