@@ -11,11 +11,11 @@ from support.tools import Done, output_of, run_tool, with_path, write_script
 
 # What tools/setup itself calls.
 TOOLS = ["awk", "dirname", "echo", "find", "grep", "ls", "sh", "tr", "xargs"]
-# It notes its crate, proves `low` and `app`, and fails in `left`; `one` and `two` wait for each other.
+# It notes its crate, proves `low` and `app`, and fails in `bad` and `left`; `one` and `two` wait for each other.
 RT = """#!/bin/sh
 crate=${PWD##*/}
 wait_for() { until grep -q "^$1" "$NOTES"; do sleep 0.01; done; }
-[ $crate != two ] || wait_for one
+case $crate in two) wait_for one ;; free) wait_for bad ;; esac
 echo "$crate $1" >> "$NOTES"
 case $crate in
 low) echo 'goals=3'; echo 'logic=proved'; echo 'status=0' ;;
@@ -23,6 +23,8 @@ stopped) kill -INT $PPID; sleep 1 ;;
 app) cat; echo 'logic=proved' >&2 ;;
 left) echo 'goal left open'; exit 7 ;;
 one) wait_for two ;;
+bad) exit 7 ;;
+free) sleep 2 ;;
 esac
 """
 
@@ -34,14 +36,16 @@ esac
     ("above", 7, "low lib, left lib", "",
      "low: proved and built in 0:00 minutes, 2 left\ngoal left open\n"
      "build: left failed with status 7; see the output above or {0}/crates/left/out/build.log\n"),
+    ("bad free third", 7, "bad lib, free lib", "",
+     "build: bad failed with status 7; see the output above or {0}/crates/bad/out/build.log\n"),
     ("none", 1, "", "", "build: no crate none in crates.txt\n"), ("stopped", 130, "stopped lib", "", ""),
 ])
 def test_each_crate_is_built_once_after_those_below_it(targets: str, status: int, notes: str, stdout: str, said: str,
                                                        top: pathlib.Path, folder: pathlib.Path) -> None:
     """And none after one that fails."""
     (folder / "crates.txt").write_text("app: right low other\nright: low\nlow:\nabove: left\nleft: low\n"
-                                       "one staticlib:\ntwo:\nstopped:\n")
-    for crate in ("app", "right", "low", "above", "left", "one", "two", "stopped"):
+                                       "one staticlib:\ntwo:\nstopped:\nbad:\nfree:\nthird:\n")
+    for crate in ("app", "right", "low", "above", "left", "one", "two", "stopped", "bad", "free", "third"):
         (folder / "crates" / crate / "src").mkdir(parents=True)
     (folder / "crates" / "app" / "src" / "main.rt").touch()
     (folder / "crates" / "app" / "stdin").write_text("the stored input\n")
