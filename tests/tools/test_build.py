@@ -89,8 +89,8 @@ def calls_of(words: list[str], top: pathlib.Path, folder: pathlib.Path, fails: i
 
 
 @pytest.mark.parametrize(("script", "steps"), [
-    ("tools/test", ["setup|test", "check", "crates/pfs/out/pfs|lib/out/libpfs.so.1", "not check and not calls",
-                    "mutants.py|--least|75|40"]),
+    ("tools/test", ["setup|test", "check", "build|pfs|pfs_c", "crates/pfs/out/pfs|lib/out/libpfs.so.1",
+                    "not check and not calls", "mutants.py|--least|75|40"]),
     ("tools/try", ["setup|try", "try"]), (".ci/run", ["setup|all", "ci", "tools/test", "calls"]),
     ("tools/hooks/pre-commit", ["make|-s|check"])])
 def test_a_script_ends_where_a_step_fails(script: str, steps: list[str], top: pathlib.Path,
@@ -102,6 +102,8 @@ def test_a_script_ends_where_a_step_fails(script: str, steps: list[str], top: pa
         assert (got.status, len(calls)) == (7 if fails else 0, fails or len(steps))
         assert all(map(str.endswith, calls, steps)) and ("stored" in got.stdout) == (calls[-1] == "rt|try"), calls
         assert script != "tools/test" or got.stdout.count(": failed with status 7\n") == bool(fails), got.stdout
+    (folder / "crates" / "pfs" / "out" / "pfs").touch()
+    assert [call for call in calls_of([script], top, folder, **git)[1] if "build" in call] == [], "it is there"
 
 
 # Where `make` has a variable, it is another one than the default.
