@@ -418,8 +418,8 @@ def test_what_the_page_asks_and_keeps(page: Page) -> None:
     assert page.text("#message") == ""
     for name in names:
         page.server.answer(f"/api/search/{name}", method="DELETE")
-    press("2,out")
-    page.click("#add")
+    # Two changes at once, so that one plan is of both.
+    run("""document.querySelector("[data-key='2,out']").click(); byId("add").click()""")
     page.wait(lambda: "; left out, as the table lacks them: J1; new, and inserted where they are best: new 15"
               in page.text("#ends"))
     # A new table has no title of another one. What is too large isn't kept, nor what was kept before.
