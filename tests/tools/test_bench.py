@@ -12,7 +12,7 @@ import pytest
 from support.tools import with_path, write_script
 
 pytestmark = [pytest.mark.long, pytest.mark.seconds(20), pytest.mark.xdist_group("bench")]
-# The crates that the functions use.
+# The crates that functions over a bench use.
 BELOW = ["pfs_base", "pfs_order", "pfs_audit", "pfs_insert", "pfs_wave"]
 # The functions, each with its error.
 REFUSED = {
@@ -36,14 +36,15 @@ REFUSED_LANES = {
     "pub fn permit(_bench: &MeteredLanes) -> pfs_base::Permit { pfs_base::Permit { cells: 1 } }":
         "error[private-field]: field `cells` of struct `Permit` is private",
 }
-# The same over a permit, with errors that come only where no other has.
+# Functions over a permit, with errors that come only where no other has.
 REFUSED_PERMITS = {
-    "pub fn lost(_bench: &MeteredLanes, permit: pfs_base::Permit) {}":
+    "pub fn lost(permit: Permit) {}":
         "error[linear-value-let-go]: `permit` is let go where its block ends, and `Permit` is not `Drop`",
-    "pub fn spent(_bench: &MeteredLanes, permit: pfs_base::Permit) { permit.spend(); permit.spend(); }":
+    "pub fn spent(permit: Permit) { permit.spend(); permit.spend(); }":
         "error[borrow-e0382]: use of moved value: `permit`",
 }
 LANES_HEAD = "//! A function over a bench of lanes.\nuse pfs_wave::MeteredLanes;\n\n"
+PERMIT_HEAD = "//! A function over a permit.\nuse pfs_base::Permit;\n\n"
 
 # The root file of a crate that has such functions, and a test, so that `rt try` compiles it.
 ROOT = """//! Functions over any bench.
@@ -58,13 +59,14 @@ fn compiles(_rt: HostRuntime) {}
 MOST_SECONDS = 600
 
 
-def errors_in(top: pathlib.Path, folder: pathlib.Path, modules: dict[str, str]) -> dict[str, list[str]]:
-    """The errors of a crate that has these modules, by the modules."""
-    for name in BELOW:
+def errors_in(top: pathlib.Path, folder: pathlib.Path, modules: dict[str, str],
+              below: list[str]) -> dict[str, list[str]]:
+    """The errors of a crate that has these modules and uses these crates, by the modules."""
+    for name in below:
         shutil.copytree(top / "crates" / name, folder / "crates" / name,
                         ignore=shutil.ignore_patterns("out", "must-fail"))
-    lines = [line for line in (top / "crates.txt").read_text().splitlines() if line.partition(":")[0] in BELOW]
-    (folder / "crates.txt").write_text("\n".join([*lines, f"any_bench: {' '.join(BELOW)}"]))
+    lines = [line for line in (top / "crates.txt").read_text().splitlines() if line.partition(":")[0] in below]
+    (folder / "crates.txt").write_text("\n".join([*lines, f"any_bench: {' '.join(below)}"]))
     crate = folder / "crates" / "any_bench"
     (crate / "src").mkdir(parents=True)
     (crate / "src" / "lib.rt").write_text(ROOT % "".join(f"pub mod {name};\n" for name in modules))
@@ -96,7 +98,7 @@ def errors(top: pathlib.Path, tmp_path_factory: pytest.TempPathFactory) -> dict[
     proved = (top / "crates" / "pfs_tests" / "src" / "any_bench.rt").read_text()
     head = proved[:proved.index("\n/// ") + 1]
     modules = {"proved": proved} | modules_of(head, REFUSED) | modules_of(LANES_HEAD, REFUSED_LANES)
-    return errors_in(top, tmp_path_factory.mktemp("refused"), modules)
+    return errors_in(top, tmp_path_factory.mktemp("refused"), modules, BELOW)
 
 
 @pytest.mark.parametrize("name", ["proved", "lib"])
@@ -112,4 +114,5 @@ def test_a_function_over_any_bench_is_rejected(errors: dict[str, list[str]], fun
 
 @pytest.mark.parametrize(("function", "error"), REFUSED_PERMITS.items())
 def test_a_permit_is_spent_once(top: pathlib.Path, tmp_path: pathlib.Path, function: str, error: str) -> None:
-    assert errors_in(top, tmp_path, modules_of(LANES_HEAD, [function])) == {"lib": [], name_of(function): [error]}
+    found = errors_in(top, tmp_path, modules_of(PERMIT_HEAD, [function]), ["pfs_base"])
+    assert found == {"lib": [], name_of(function): [error]}
