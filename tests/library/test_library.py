@@ -430,7 +430,7 @@ def is_quick(name: str, arguments: Arguments) -> bool:
         return True
     if max(first + count, take, passes) > second_library.MOST_ROUNDS:
         return True
-    return bool(first * take <= 100_000 and count <= 20 and count * passes * numbers[1]**3 * numbers[2] <= MOST_WORK)
+    return bool(first * take <= 10_000 and count <= 20 and count * passes * numbers[1]**3 * numbers[2] <= MOST_WORK)
 
 
 def assert_same(libpfs: Library, name: str, arguments: Arguments) -> int:
