@@ -7,26 +7,21 @@ import pathlib
 import re
 import subprocess
 from collections.abc import Mapping, Sequence
-from typing import Any, NamedTuple
+from typing import Any
 
 # Runs after the script of a page: the pen notes what it does, and the page is looked at as a user does it.
 PEN = """
-const drawn = {texts: [], calls: []};
-let path_ = [];
-function note(...call) { drawn.calls.push(call); }
-function noteLine(name, ...where) {
-  note(name, ...where, pen.strokeStyle, pen.globalAlpha, pen.lineWidth, ...pen.getLineDash());
-}
+let calls = [], path_ = [];
+function note(...call) { calls.push(call); }
+function noteLine(...what) { note(...what, pen.strokeStyle, pen.globalAlpha, pen.lineWidth, ...pen.getLineDash()); }
 const NOTES = {
   scale: (...scale) => {
-    [drawn.texts, path_] = [[], []];
-    drawn.calls = [["scale", ...scale, canvas.width, canvas.height, parseFloat(canvas.style.height)]];
+    [calls, path_] = [[], []];
+    note("scale", ...scale, canvas.width, canvas.height, parseFloat(canvas.style.height));
   },
   save: () => note("save"), clip: () => note("clip", ...path_), restore: () => note("restore"),
-  fillText: (text, x, y) => {
-    drawn.texts.push({text, x, y});
-    note("fillText", text, x, y, pen.textAlign, pen.textBaseline, pen.font, pen.fillStyle, pen.globalAlpha);
-  },
+  fillText: (...what) =>
+    note("fillText", ...what, pen.textAlign, pen.textBaseline, pen.font, pen.fillStyle, pen.globalAlpha),
   fillRect: (...box) => note("fillRect", ...box, pen.fillStyle, pen.globalAlpha),
   strokeRect: (...box) => noteLine("strokeRect", ...box),
   beginPath: () => { path_ = []; },
@@ -36,11 +31,6 @@ const NOTES = {
 for (const [name, each] of Object.entries(NOTES)) {
   const own = pen[name].bind(pen);
   pen[name] = (...words) => { each(...words); own(...words); };
-}
-// What is on the canvas after this is done, and the times from the left edge to the right one.
-function drawnBy(done) {
-  done();
-  return {...drawn, from, to, left, right: width - RIGHT, height: canvas.height};
 }
 function send(kind, type, x, y, more) {
   const box = canvas.getBoundingClientRect(), place = kind === "pointerup" ? window : canvas;
@@ -68,14 +58,6 @@ addEventListener("message", ({data}) => {
 </script>"""
 
 
-class Frame(NamedTuple):
-    """A page in a frame of this size, and a script that looks at it."""
-    page: pathlib.Path
-    script: str
-    width: int = 1000
-    height: int = 600
-
-
 def scripted(page: pathlib.Path, script: str, injected: str = "") -> str:
     """A page with a script at its end, for which its policy doesn't hold. It holds for what is injected before it."""
     text = page.read_text("utf-8")
@@ -93,8 +75,8 @@ def browsed(chromium: str, page: pathlib.Path, folder: pathlib.Path, width: int,
     return subprocess.run([*words, *flags, page.as_uri()], capture_output=True, text=True, timeout=120)
 
 
-def seen_of(chromium: str, text: str, folder: pathlib.Path, flags: Sequence[str]) -> Any:
-    """What the scripts of a page have seen in a browser with these flags."""
+def looked_at(chromium: str, text: str, folder: pathlib.Path, flags: Sequence[str] = ()) -> Any:
+    """What the script of a page has seen in a browser with these flags."""
     copy = folder / "looked_at.html"
     copy.write_text(text, "utf-8")
     done = browsed(chromium, copy, folder, 1000, "--enable-logging=stderr", "--dump-dom", *flags)
@@ -104,20 +86,11 @@ def seen_of(chromium: str, text: str, folder: pathlib.Path, flags: Sequence[str]
     return json.loads(html.unescape(found[1]))
 
 
-def looked_at(chromium: str, page: pathlib.Path, folder: pathlib.Path, script: str, injected: str = "",
-              flags: Sequence[str] = ()) -> dict[str, Any]:
-    """What this script sees of a page."""
-    seen: dict[str, Any] = seen_of(chromium, scripted(page, script, injected), folder, flags)
-    return seen
-
-
-def all_looked_at(chromium: str, frames: Mapping[str, Frame], folder: pathlib.Path,
-                  flags: Sequence[str] = ()) -> dict[str, Any]:
-    """What the scripts of all these pages see, by their names; nothing of one whose script fails."""
-    shown = [f'<iframe name="{name}" width="{frame.width}" height="{frame.height}" style="border: 0" '
-             f'srcdoc="{html.escape(scripted(frame.page, frame.script))}"></iframe>' for name, frame in frames.items()]
-    seen: dict[str, Any] = seen_of(chromium, FRAMES + "".join(shown), folder, flags)
-    return seen
+def all_looked_at(chromium: str, frames: Mapping[str, tuple[str, int, int]], folder: pathlib.Path) -> dict[str, Any]:
+    """What the scripts of these pages have seen, each in a frame of a width and a height; nothing if a script fails."""
+    shown = [f'<iframe name="{name}" width="{wide}" height="{high}" style="border: 0" srcdoc="{html.escape(text)}">'
+             "</iframe>" for name, (text, wide, high) in frames.items()]
+    return dict(looked_at(chromium, FRAMES + "".join(shown), folder))
 
 
 def printed(chromium: str, page: pathlib.Path, folder: pathlib.Path, width: int) -> bytes:
