@@ -68,10 +68,9 @@ def scripted(page: pathlib.Path, script: str, injected: str = "") -> str:
     return allowed.replace("</body>", f"{injected}<script>{script}</script></body>")
 
 
-def browsed(chromium: str, page: pathlib.Path, folder: pathlib.Path, width: int,
-            *flags: str) -> subprocess.CompletedProcess[str]:
+def browsed(chromium: str, page: pathlib.Path, folder: pathlib.Path, *flags: str) -> subprocess.CompletedProcess[str]:
     words = [chromium, "--headless", "--no-sandbox", "--disable-gpu", "--disable-dev-shm-usage",
-             f"--user-data-dir={folder / 'profile'}", f"--window-size={width},600", "--virtual-time-budget=5000"]
+             f"--user-data-dir={folder / 'profile'}", "--window-size=1000,600", "--virtual-time-budget=5000"]
     return subprocess.run([*words, *flags, page.as_uri()], capture_output=True, text=True, timeout=120)
 
 
@@ -79,22 +78,22 @@ def looked_at(chromium: str, text: str, folder: pathlib.Path, flags: Sequence[st
     """What the script of a page has seen in a browser with these flags."""
     copy = folder / "looked_at.html"
     copy.write_text(text, "utf-8")
-    done = browsed(chromium, copy, folder, 1000, "--enable-logging=stderr", "--dump-dom", *flags)
+    done = browsed(chromium, copy, folder, "--enable-logging=stderr", "--dump-dom", *flags)
     found = re.search(r'<pre id="seen">(.+?)</pre>', done.stdout, re.DOTALL)
     faults = re.findall(r"CONSOLE.*", done.stderr)
     assert found, f"the page's script ended with {faults or done.stderr[-500:]}"
     return json.loads(html.unescape(found[1]))
 
 
-def all_looked_at(chromium: str, frames: Mapping[str, tuple[str, int, int]], folder: pathlib.Path) -> dict[str, Any]:
-    """What the scripts of these pages have seen, each in a frame of a width and a height; nothing if a script fails."""
-    shown = [f'<iframe name="{name}" width="{wide}" height="{high}" style="border: 0" srcdoc="{html.escape(text)}">'
-             "</iframe>" for name, (text, wide, high) in frames.items()]
+def all_looked_at(chromium: str, frames: Mapping[str, tuple[str, int]], folder: pathlib.Path) -> dict[str, Any]:
+    """What the scripts of these pages have seen, each in a frame of a width; nothing if a script fails."""
+    shown = [f'<iframe name="{name}" width="{wide}" height="150" style="border: 0" srcdoc="{html.escape(text)}">'
+             "</iframe>" for name, (text, wide) in frames.items()]
     return dict(looked_at(chromium, FRAMES + "".join(shown), folder))
 
 
-def printed(chromium: str, page: pathlib.Path, folder: pathlib.Path, width: int) -> bytes:
-    """The PDF file as which a page is printed from a window of this width."""
-    done = browsed(chromium, page, folder, width, "--no-pdf-header-footer", f"--print-to-pdf={folder / 'page.pdf'}")
+def printed(chromium: str, page: pathlib.Path, folder: pathlib.Path) -> bytes:
+    """The PDF file as which a page is printed."""
+    done = browsed(chromium, page, folder, "--no-pdf-header-footer", f"--print-to-pdf={folder / 'page.pdf'}")
     assert done.returncode == 0, done.stderr[-500:]
     return (folder / "page.pdf").read_bytes()
