@@ -13,7 +13,6 @@ import pytest
 from hypothesis import assume, given
 from hypothesis import strategies as st
 from pfs._calendar import Clock
-from support.browser import PEN, looked_at
 
 DAY = datetime.timedelta(days=1)
 DAYS = ["mon", "tue", "wed", "thu", "fri", "sat", "sun"]
@@ -328,98 +327,3 @@ def test_a_picture_has_dates_on_its_scale(tmp_path: pathlib.Path) -> None:
     assert plan().plot().axes[0].get_xlabel() == "time (min)"
     assert axis.get_title().endswith(" min, end Thu 2026-12-03 08:50")
     assert not plan().plot().axes[0].get_title().endswith(" min")
-
-
-# What the page says of each operation that one points at, and what its scale has.
-SAID = PEN + """
-const seen = {tips: [], lists: [], scale: drawnBy(() => press("0")).texts.filter(text => text.y > yOf(machines))};
-for (let machine = 0; machine < machines; ++machine) {
-  for (let place = 0; place < jobs; ++place) {
-    const middle = (table.starts[machine][place] + table.ends[machine][place]) / 2;
-    send("pointermove", PointerEvent, xOf(middle), yOf(machine) + ROW / 2);
-    seen.tips.push(table.starts[machine][place] < table.ends[machine][place] ? tip.textContent : "");
-  }
-  choice.value = machine;
-  choice.dispatchEvent(new Event("change"));
-  const rows = [...lists[machine].querySelectorAll("tbody tr")];
-  seen.lists.push(rows.map(row => [...row.cells].map(cell => cell.textContent)));
-}
-seen.clocks = drawnBy(() => press(..."+".repeat(80))).texts.map(text => text.text).filter(text => /^\\d+:/.test(text));
-press("0");
-choice.value = "all";
-choice.dispatchEvent(new Event("change"));
-document.body.style.width = `${130 + 60 * days.length}px`;
-const shown = drawnBy(draw).texts.filter(text => text.y < TOP);
-seen.days = shown.map(text => text.text);
-pen.font = SMALL_LETTERS;
-seen.rooms = shown.slice(1).map(({x}, at) => x - shown[at].x - pen.measureText(shown[at].text).width);
-document.body.style.width = "160px";
-const range = document.createRange(), cells = [...document.querySelectorAll("#lists th, #lists td")];
-seen.lines = cells.filter(cell => !cell.textContent.includes(" ")).map(cell => {
-  range.selectNodeContents(cell);
-  return range.getClientRects().length;
-});
-tell(seen);
-"""
-PAGES: dict[str, tuple[str, dict[str, Any], str]] = {
-    "shifts": ("2026-11-30T12:00", EARLY, "min"), "an end with a shift": ("2026-11-30T10:40", EARLY, "min"),
-    "nights": ("2026-12-04T20:00", NIGHT, "min"),
-    "breaks": ("2026-12-04T08:00:30", BREAK, "min"), "always": ("2026-12-30T12:00", ALWAYS, "h"),
-    "seconds": ("1969-12-31T23:59:50", {"shifts": "23:59-00:01"}, "s"),
-    "Sunday": ("2026-12-06T23:00", NIGHT | {"days": "sun"}, "min"),
-    "closed": ("2026-12-23T12:00", SHORT | {"closed": "2026-12-24..2027-01-03"}, "min"),
-}
-
-
-@pytest.mark.seconds(15)
-@pytest.mark.parametrize("case", PAGES)
-def test_a_page_has_the_dates_of_the_schedule(chromium: str, tmp_path: pathlib.Path, case: str) -> None:
-    """What it says of each operation, and its list of each machine, are the rows of the table."""
-    begin, words, unit = PAGES[case]
-    calendar, made = pfs.Calendar(begin, **words), plan(unit)
-    made.plot(tmp_path / "chart.html", calendar=calendar)
-    seen = looked_at(chromium, tmp_path / "chart.html", tmp_path, SAID)
-    text = made.to_csv(calendar=calendar)
-    assert text is not None
-    rows = [line.split(",") for line in text.splitlines()[1:]]
-    by_machine = [rows[at::3] for at in range(3)]
-    assert seen["lists"] == [listed(each) for each in by_machine]
-    due = [f"job {job}\nmachine {machine}\nstart {start}\nend {end}" for each in by_machine
-           for job, machine, start, end in each]
-    assert [tip for tip in seen["tips"] if tip] == [text for text in due if " 0\n" not in text and not is_empty(text)]
-    assert set(seen["lines"]) == {1}, "a word is broken where a list is narrow"
-    assert all(re.fullmatch(r"\w{3}( (\d{4}-)?\d\d-\d\d)?", day) for day in seen["days"]) and min(
-        seen["rooms"], default=1) > 0, seen["days"]
-    marks = [text for text in seen["scale"] if re.fullmatch(r"\w{3} \d{4}-\d\d-\d\d", text["text"])]
-    assert all(after["x"] - before["x"] > 95 for before, after in zip(marks, marks[1:])), "dates overlap"
-    assert len(seen["clocks"]) == len({*seen["clocks"]}) > 2, "close marks say the same time"
-    *heights, last = sorted(text["y"] for text in seen["scale"])
-    assert last - heights[-1] >= 14, "the title of the scale is on its dates"
-    dates = [text["text"] for text in marks]
-    days = [datetime.date.fromisoformat(text[4:]) for text in dates]
-    assert days and days == sorted(set(days)), "each date once, from left to right"
-    assert dates[0] == with_day(rows[0][2][:10]) and dates == [with_day(str(day)) for day in days]
-
-
-def with_day(date: str) -> str:
-    return datetime.date.fromisoformat(date).strftime("%a %Y-%m-%d")
-
-
-def listed(rows: list[list[str]]) -> list[list[str]]:
-    """The list of a machine: each date once, and no job that skips the machine."""
-    found: list[list[str]] = []
-    days: list[str] = []
-    for place, (job, _, start, end) in enumerate(rows, 1):
-        if start != end:
-            if [start[:10]] != days[-1:]:
-                days.append(start[:10])
-                found.append([with_day(start[:10])])
-            other = "" if end[:10] == start[:10] else with_day(end[:10]) + " "
-            found.append([str(place), job, start[11:], other + end[11:]])
-    return found
-
-
-def is_empty(text: str) -> bool:
-    """Whether an operation takes no time."""
-    start, end = re.findall(r"(?:start|end) (.*)", text)
-    return bool(start == end)

@@ -1,123 +1,370 @@
-"""Pages of charts, looked at in a browser. What the pen draws is read across by the marks of its scale, and down by the
-names of its machines. A picture by matplotlib has the same colours."""
-import colorsys
-import hashlib
+"""Pages of charts, looked at in a browser, most of them in frames of one window. What the pen does is compared with
+`drawing`, which says what a reader expects of a schedule."""
+import datetime
 import itertools
 import json
 import math
 import pathlib
+import random
 import re
-from collections.abc import Sequence
+from collections.abc import Iterator, Sequence
 from typing import Any, NamedTuple
+from unittest import mock
 
-import numpy as np
 import pfs
 import pytest
-from pfs import _drawing
-from support.browser import PEN, looked_at, printed, with_script
-from support.colours import hexadecimal
+from pfs import _chart, _drawing
+from pfs._calendar import Clock
+from support.browser import PEN, all_looked_at, looked_at, printed, scripted
+from support.colours import contrast, hexadecimal
 from support.needs import tool
 from support.tools import output_of
 
-IDLE = "#d9d9d9"
+pytestmark = pytest.mark.xdist_group("pages of charts")
 TIMES = [[30, 25, 0], [20, 50, 15], [40, 10, 20]]
 MACHINES = ["saw", "drill", "paint"]
+# Paper, letters, lines, the scale, and idle time.
+LIGHT = "#ffffff", "#111111", "#000000", "#888888", "#d9d9d9"
+DARK = "#181a1b", "#e8e6e3", "#ffffff", "#999999", "#3c4043"
+# The sizes of letters. Where the pen is noted, an i or an l is a quarter as wide as high, and others are twice as wide.
+LETTERS, SMALL = 12, 9
+MEASURED = """
+pen.measureText = text => ({width: parseFloat(pen.font) / 4 * (2 * [...text].length - text.split(/[il]/).length + 1)});
+"""
 
 
-class Bar(NamedTuple):
-    """A rectangle from one time to another in a machine's row."""
-    machine: int
-    start: float
-    end: float
-    colour: str
-    line: float = 0
+def width(text: str, letters: int) -> float:
+    return letters / 4 * (2 * len(text) - len(re.findall("[il]", text)))
 
 
-class Sheet:
-    """What was drawn, in times and machines."""
-
-    def __init__(self, drawn: dict[str, Any], shop: pfs.Instance) -> None:
-        self.texts, self.lines, self.left, self.right = (drawn[kind] for kind in ("texts", "lines", "left", "right"))
-        names = [text for text in self.texts if text["align"] == "right"]
-        self.names, self.rows = [text["text"] for text in names], [text["y"] for text in names]
-        assert self.rows == sorted(set(self.rows)), "machines go down"
-        # The marks of the scale are short lines below the rows, each with its time, before what else is written there.
-        ticks = {line[0] for line in self.lines if line[4] == "#888888"}
-        self.marks = {text["x"]: text["text"] for text in reversed(self.texts)
-                      if text["y"] > self.rows[-1] and text["x"] in ticks}
-        (first, begin), *_, (last, end) = ((x, float(text.replace(",", "")) * 10**shop.decimals)
-                                           for x, text in sorted(self.marks.items()))
-        self.unit = (end - begin) / (last - first)
-        self.zero = first - begin / self.unit
-        self.view = self.time(self.left), self.time(self.right)
-        self.bars, self.boxes = ([self.bar(*shape) for shape in drawn[kind]] for kind in ("fills", "boxes"))
-
-    def time(self, x: float) -> float:
-        return float((x - self.zero) * self.unit)
-
-    def bar(self, x: float, y: float, wide: float, high: float, colour: str, line: float = 0) -> Bar:
-        row, = [row for row in self.rows if y < row < y + high]
-        return Bar(self.rows.index(row), self.time(x), self.time(x + wide), colour, line)
-
-    def labels(self, made: pfs.Schedule) -> dict[tuple[int, int], tuple[str, str]]:
-        """The texts on bars and their colours, by machine and place. Each is in the middle of its bar."""
-        found = {}
-        for text in self.texts:
-            if text["align"] == "center" and text["y"] in self.rows:
-                machine, time = self.rows.index(text["y"]), self.time(text["x"])
-                place, = [place for place in range(len(made.order))
-                          if made.starts[place, machine] < time < made.ends[place, machine]]
-                middle = (made.starts[place, machine] + made.ends[place, machine]) / 2
-                assert time == pytest.approx(middle, abs=3 * self.unit), f"{text['text']} in the middle of its bar"
-                found[machine, place] = text["text"], text["colour"]
-        return found
+def cut(text: str, letters: int, room: float) -> str:
+    """A text, or as much of its beginning as there is room for."""
+    made = [text, *(text[:many].rstrip() + "\u2026" for many in range(len(text) - 1, 0, -1))]
+    return next((each for each in made if width(each, letters) <= room), "\u2026")
 
 
-def seen_of(chromium: str, made: pfs.Schedule, folder: pathlib.Path, script: str, *, scale: int = 1,
-            flags: Sequence[str] = (), **more: Any) -> dict[str, Any]:
-    """What a script sees of the page of a schedule."""
-    made.plot(folder / "chart.html", **more)
-    return looked_at(chromium, folder / "chart.html", folder, PEN + script, scale=scale, flags=flags)
+class Look(NamedTuple):
+    """What is looked at: a chart on a canvas that is so wide, from one time to another one or to the end; on a screen
+    with so many pixels, light or dark, or on paper; the operation that one points at, by machine and place; and the
+    places of the jobs that are sought."""
+    made: pfs.Schedule
+    calendar: pfs.Calendar | None = None
+    critical: bool = False
+    bound: int | None = None
+    wide: int = 1140
+    first: float = 0
+    last: float = 0
+    pixels: float = 1
+    dark: bool = False
+    paper: str = ""
+    pointed: tuple[int, int] | None = None
+    sought: tuple[int, ...] = ()
 
 
-def schedule() -> pfs.Schedule:
-    shop = pfs.Instance(TIMES, name="plan", job_names=["table", "chair", "box"], decimals=1, unit="h",
-                        machine_names=MACHINES)
-    return shop.schedule([1, 0, 2])
+class Layout:
+    """Where times and machines are, and what is written there."""
+
+    def __init__(self, look: Look) -> None:
+        self.look, self.shop, order = look, look.made.instance, look.made.order.tolist()
+        self.clock = Clock(look.calendar, self.shop) if look.calendar else None
+        self.first, self.last = look.first, look.last or max(1, look.made.makespan)
+        self.row, self.top = max(14, min(36, 720 / self.shop.machines)), 20 if self.clock else 6
+        self.bottom = self.top + self.shop.machines * self.row
+        self.height = self.bottom + (58 if self.clock else 44)
+        paper = max(1500 if look.paper == "A3" else 1040, math.ceil(self.height * 1.6))
+        self.wide = paper if look.paper else look.wide or 1000
+        self.is_narrow = self.wide < 600
+        self.machines = [self.shop.machine_name(machine) for machine in range(self.shop.machines)]
+        longest = max(width(name, LETTERS) for name in self.machines)
+        self.left = min(self.wide / (5 if self.is_narrow else 3), 16 + longest)
+        self.right = self.wide - (40 if self.is_narrow else 76)
+        self.jobs, self.fills = [*map(self.shop.job_name, order)], _drawing.colours([job + 1 for job in order])
+        self.sign = "#" if any(name.isdecimal() for name in self.jobs) else ""
+
+    def x(self, time: float) -> float:
+        return self.left + (time - self.first) / (self.last - self.first) * (self.right - self.left)
+
+    def spans(self, machine: int) -> list[tuple[int, int]]:
+        """Start and end of each operation of a machine."""
+        return [*zip(self.look.made.starts[:, machine].tolist(), self.look.made.ends[:, machine].tolist())]
+
+    def bars(self, machine: int) -> Iterator[tuple[int, int, int]]:
+        """Place, start and end of the operations that are drawn: of many within a pixel one."""
+        pixel = None
+        for place, (start, end) in enumerate(self.spans(machine)):
+            is_seen, x = start < end and start < self.last and end > self.first, self.x(start)
+            if is_seen and (self.x(end) - x >= 1 or math.floor(x) != pixel):
+                pixel = math.floor(x)
+                yield place, start, end
+
+    def label(self, place: int, start: float, end: float) -> tuple[str, int, float]:
+        """What is written in the middle of what is seen of a bar: the job's name, or in small letters its place in the
+        key, with the beginning of the name where there is room."""
+        begin, close = max(self.x(start), self.left), min(self.x(end), self.right)
+        room, name, number = close - begin, self.jobs[place], f"{self.sign}{place + 1}"
+        if room > 10 and width(name, LETTERS) + 6 < room:
+            return name, LETTERS, (begin + close) / 2
+        if self.shop.job_names is None or width(number, SMALL) + 2 >= room:
+            return "", SMALL, 0
+        longer = cut(f"{number} {name}", SMALL, room - 4)
+        is_enough = room >= 40 and len(longer) >= len(number) + 6
+        return longer if is_enough else number, SMALL, (begin + close) / 2
+
+    def key(self) -> list[list[str]]:
+        """The places and names of the jobs that are seen, with their colours, if a bar has no name."""
+        labels = [self.label(*bar) for machine in range(self.shop.machines) for bar in self.bars(machine)]
+        is_needed = self.shop.job_names is not None and any(letters == SMALL for _, letters, _ in labels)
+        seen = {place for machine in range(self.shop.machines) for place, (start, end) in enumerate(self.spans(machine))
+                if start < self.last and end > self.first}
+        return [[f"\u25a0 {self.sign}{place + 1} {self.jobs[place]}",
+                 "rgb({}, {}, {})".format(*(round(255 * part) for part in self.fills[place]))]
+                for place in sorted(seen) if is_needed]
+
+    def marks(self) -> Iterator[tuple[float, str, str]]:
+        """The times of the scale, at least 80 pixels apart, each with its text and its date."""
+        least, is_clock = (self.last - self.first) * 80 / (self.right - self.left), self.shop.unit == "h:mm"
+        steps = self.clock.steps() if self.clock else _chart.MINUTES if is_clock else (
+            digit * 10**zeros for zeros in itertools.count() for digit in (1, 2, 5))
+        step = next(step for step in steps if step >= least)
+        time = math.ceil(self.first / step) * step
+        while time <= self.last:
+            text, date = f"{time / 10**self.shop.decimals:.{self.shop.decimals}f}", ""
+            if self.clock:
+                tick = self.clock.tick / self.clock.scale
+                moment = self.clock.calendar.start(round(time * tick))
+                text, date = moment.strftime("%H:%M:%S" if step * tick < 60e6 else "%H:%M"), f"{moment:%a %Y-%m-%d}"
+            yield time, f"{time // 60}:{time % 60:02}" if is_clock else text, date
+            time += step
 
 
-def bars_due(made: pfs.Schedule) -> list[Bar]:
-    """Each operation that takes time, in the colour that its bar has in the picture by matplotlib."""
-    found = []
-    for each in made.plot().axes[0].collections:
-        if each.get_gid().startswith("machine-"):
-            machine = int(each.get_gid().removeprefix("machine-")) - 1
-            places = [place for place, busy in enumerate((made.ends - made.starts)[:, machine]) if busy]
-            colours = map(hexadecimal, itertools.cycle(each.get_facecolor()[:, :3]))
-            found += [Bar(machine, int(made.starts[place, machine]), int(made.ends[place, machine]), colour)
-                      for place, colour in zip(places, colours)]
+def drawing(look: Look) -> Iterator[list[Any]]:
+    """What the pen does, in this order, with what it depends on."""
+    at, made = Layout(look), look.made
+    paper, ink, black, grey, idle = DARK if look.dark and not look.paper else LIGHT
+    fine = min(look.pixels, 8192 / at.wide) if look.paper else look.pixels
+
+    def text(what: str, x: float, y: float, align: str, letters: int = LETTERS, colour: str = ink,
+             alpha: float = 1) -> list[Any]:
+        return ["fillText", what, x, y, align, "middle", f"{letters}px system-ui, sans-serif", colour, alpha]
+
+    def line(time: float, top: float, bottom: float, colour: str, wide: float, *dashes: int) -> list[Any]:
+        return ["stroke", at.x(time), top, at.x(time), bottom, colour, 1, wide, *dashes]
+
+    def outline(machine: int, start: int, end: int, wide: float, inside: int) -> Iterator[list[Any]]:
+        x, long = at.x(start), at.x(end) - at.x(start)
+        if start < end:
+            yield ["strokeRect", x + inside, at.top + at.row * (machine + 0.1) + inside,
+                   max(2, long - 3) if inside else long, at.row * 0.8 - 2 * inside, black, 1, wide]
+
+    yield ["scale", fine, fine, int(at.wide * fine), int(at.height * fine), at.height]
+    yield ["save"]
+    yield ["clip", at.left - 1, 0, at.right - at.left + 2, at.height]
+    for machine in range(at.shop.machines):
+        y, high = at.top + at.row * (machine + 0.1), at.row * 0.8
+        yield ["fillRect", at.x(0), y, at.x(made.makespan) - at.x(0), high, idle, 1]
+        for place, start, end in at.bars(machine):
+            long, alpha = at.x(end) - at.x(start), 0.2 if look.sought and place not in look.sought else 1
+            yield ["fillRect", at.x(start), y, long - 1 if long > 4 else max(long, 0.6), high,
+                   hexadecimal(at.fills[place]), alpha]
+            label, letters, middle = at.label(place, start, end)
+            if label:
+                colour = {"black": "#000000", "white": "#ffffff"}[_drawing.ink(at.fills[place])]
+                yield text(label, middle, y + high / 2, "center", letters, colour, alpha)
+            if look.pointed and look.pointed[1] == place:
+                yield from outline(machine, start, end, 3 if look.pointed[0] == machine else 1.5, 1)
+    breaks = [each for each in at.clock.breaks(made.makespan) if at.first <= each[0] < at.last] if at.clock else []
+    days = [(time, day) for time, day in breaks if day]
+    for time, day in days if at.right - at.left < 5 * len(breaks) else breaks:
+        yield line(time, 6, at.bottom, black, 1) if day else line(time, at.top, at.bottom, grey, 1, 3, 3)
+    for (time, day), close in zip(days, [*(at.x(time) for time, _ in days[1:]), at.right]):
+        texts = [each for each in (day, day[:4] + day[9:], day[:3]) if width(each, SMALL) < close - at.x(time) - 6]
+        yield from [text(each, at.x(time) + 3, 11, "left", SMALL) for each in texts[:1]]
+    path = _drawing.critical_path(made.starts, made.ends) if look.critical else []
+    for machine, group in itertools.groupby(path, lambda operation: operation[1]):
+        places = [place for place, _ in group]
+        yield from outline(machine, at.spans(machine)[places[0]][0], at.spans(machine)[places[-1]][1], 2, 0)
+    if look.bound is not None:
+        yield line(look.bound, 0, at.bottom, paper, 3)
+        yield line(look.bound, 0, at.bottom, black, 1.5, 6, 4)
+    yield ["restore"]
+    for machine, name in enumerate(at.machines):
+        y, busy = at.top + at.row * (machine + 0.5), sum(end - start for start, end in at.spans(machine))
+        yield text(cut(name, LETTERS, at.left - 10), at.left - 8, y, "right")
+        if made.makespan:
+            share = f"{100 - 100 * busy / made.makespan:.0f} %"
+            yield text(share if machine or at.is_narrow else f"{share} idle", at.right + 8, y, "left")
+    before, free = "", -math.inf
+    for time, mark, date in at.marks():
+        x, half = at.x(time), width(date, LETTERS) / 2 + 3
+        yield line(time, at.bottom, at.bottom + 5, grey, 1)
+        yield text(mark, x, at.bottom + 14, "center")
+        if date != before and x - half >= free:
+            yield text(date, x, at.bottom + 28, "center")
+            before, free = date, x + half
+    dates = "date and time" if look.calendar and look.calendar.is_always else "date and time, in shifts only"
+    title = dates if at.clock else f"time ({at.shop.unit or 'units of the instance'})"
+    yield text(title, (at.left + at.right) / 2, at.bottom + (46 if at.clock else 32), "center")
+
+
+def assert_drawn(calls: list[list[Any]], look: Look) -> None:
+    due = [*drawing(look)]
+    for at, (got, wanted) in enumerate(zip(calls, due)):
+        assert got == [pytest.approx(each, abs=1e-6) if isinstance(each, (int, float)) else each
+                       for each in wanted], f"{look[4:]}: after {calls[:at][-2:]}"
+    assert len(calls) == len(due), look
+
+
+def just_fitting(last: str) -> pfs.Schedule:
+    """A unit is a pixel where the canvas is 1140 wide: names and places just fit, or just don't fit."""
+    lengths = {"i": 10, "l": 11, "box": 24, "bed": 25, "cupboard of oak": 6, "bench and back": 7, "oaks of Norway": 39,
+               "oak tower of oak": 40, "oaks a row of them": 41, "doors of oak": 11, "stoop of oak": 12, "oak desk": 40,
+               "oaken desk": 40, "stage": 4, "chest": 5, last: 1, "y": 0, "wardrobe " * 9 + "z": 300}
+    times = [[length, 7 * at % 23, 5 * at % 11] for at, length in enumerate(lengths.values(), 1)]
+    times[-1][-1] += 1024 - pfs.Instance(times).schedule(range(len(times))).makespan
+    return pfs.Instance(times, job_names=[*lengths], machine_names=["saw", "drum", "oven"], unit="mm").schedule(
+        range(len(times)))
+
+
+# 2026-11-30 is a Monday.
+CALENDARS = [(pfs.Calendar(*words), unit) for unit, *words in (
+    ("h", "2026-12-30T12:00"), ("min", "1969-12-30T22:00:07", "22:00-06:00", "mon-fri"),
+    ("s", "1969-12-31T23:59:50", "23:59-00:01"), ("min", "2026-12-06T23:00", "22:00-06:00", "sun"),
+    ("min", "2026-11-30T10:40", "06:00-14:00", "mon-fri"),
+    ("min", "2026-12-23T06:00", "06:00-10:00,10:30-14:00", "mon,wed,sun", "2026-12-24..2027-01-03"))]
+
+
+def looks(look: Look, *others: dict[str, Any]) -> list[Look]:
+    return [look._replace(**more) for more in others]
+
+
+def generated(jobs: int, machines: int, name: str = "") -> pfs.Schedule:
+    names = [f"{name} {4000 + job}, Lack" for job in range(jobs)] if name else None
+    return pfs.Instance(pfs.generate(jobs, machines, 7).times, job_names=names, unit="min").schedule(range(jobs))
+
+
+FITTING = Look(just_fitting("z"), critical=True, bound=800)
+LOOKS: dict[str, list[Look]] = {
+    "names that just fit": looks(
+        FITTING, {}, dict(first=256, last=768), dict(first=288, last=800), dict(first=128, last=768, dark=True),
+        dict(wide=592, pixels=2), dict(wide=600, pixels=1.5), dict(wide=599), dict(wide=0), dict(pixels=4, paper="A4"),
+        dict(pixels=4, paper="A3", dark=True), dict(pointed=(0, 2)), dict(pointed=(1, 4)), dict(pointed=(2, 17)),
+        dict(sought=(2, 17))),
+    "a name that is a number": [Look(just_fitting("4711"), bound=0)],
+    "8 hours a day": looks(
+        Look(pfs.Instance([[500, 100], [400, 200]], unit="h", machine_names=["saw", "drum"]).schedule([0, 1]),
+             pfs.Calendar("2026-11-30T06:00", "06:00-10:00,11:00-15:00"), True, 1000),
+        dict(wide=1491), dict(wide=1490), *(dict(wide=wide, last=last) for wide, last in (
+            (1220, 128), (1236, 128), (860, 128), (740, 256), (836, 64))), dict(wide=828, last=64, dark=True),
+        dict(first=64, last=192), dict(first=32, last=232, wide=500), dict(paper="A4", pixels=4)),
+    "other shifts": looks(
+        Look(pfs.Instance([[4800, 0, 3000], [600, 24_000, 0], [1195, 7, 9], [1, 1, 0]], unit="min", decimals=1,
+                          job_names=[*"abcd"], machine_names=MACHINES).schedule([2, 0, 1, 3]),
+             pfs.Calendar("2026-11-27T12:00:30", ["06:00-14:00", "fri:22:00-02:00"], "mon-fri", "2026-11-30"), True),
+        {}, dict(first=3000, last=3040), dict(first=4700, last=4710), dict(last=600)),
+    "hours and minutes": looks(Look(pfs.Instance([[90, 45], [30, 600]], unit="h:mm").schedule([1, 0]), critical=True),
+                               dict(wide=500), dict(wide=1000, first=90, last=330)),
+    "many operations": looks(Look(generated(1500, 1)), {}, dict(first=1000, last=3000)),
+    "rows of 14 pixels": [Look(generated(3, 60))], "rows of 18 pixels": [Look(generated(3, 40))],
+    "a long page": [Look(generated(2, 199), pixels=4, paper="A4")],
+    "no work": looks(Look(pfs.Instance([[0, 0]] * 2, machine_names=["saw", "il " * 40]).schedule([0, 1]), None, True),
+                     dict(wide=900), dict(wide=450)),
+    **{f"from {calendar.begin} on": [Look(pfs.Instance(
+        [[240, 250, 0], [200, 500, 150], [400, 100, 201]], unit=unit, decimals=2 if unit == "s" else 0,
+        machine_names=MACHINES).schedule([1, 0, 2]), calendar)] for calendar, unit in CALENDARS},
+}
+LOOKED = MEASURED + """
+function items(list) {
+  return [...list.querySelectorAll("li")].map(each => [each.textContent, each.firstChild.style.color]);
+}
+function looked(look) {
+  canvas.style.width = `${look.wide}px`;
+  window.devicePixelRatio = look.pixels;
+  Object.defineProperty(isDark, "matches", {value: look.dark, configurable: true});
+  [paper.value, places.open, pointed, pen.font] = [look.paper || "A4", true, look.pointed, "1px serif"];
+  sought = look.sought.length ? new Set(look.sought) : null;
+  show(look.first, look.last || end);
+  if (look.paper) window.dispatchEvent(new Event("beforeprint"));
+  const seen = [calls, places.hidden ? [] : items(places)];
+  if (look.paper) window.dispatchEvent(new Event("afterprint"));
+  return seen;
+}
+const told = table.machines.map((_, machine) => table.jobs.map((_, place) => spanOf(machine, place)));
+const listed = lists.map(list => [...list.tBodies[0].rows].map(row => [...row.cells].map(cell => cell.textContent)));
+"""
+
+
+class Page(NamedTuple):
+    """A schedule, a script that looks at its page in a frame of this width, and what else its chart has."""
+    made: pfs.Schedule
+    script: str
+    more: dict[str, Any] = {}
+    width: int = 1000
+    is_listed: bool = True
+
+
+def page_of(looks: list[Look]) -> Page:
+    states = [dict(list(look._asdict().items())[4:]) for look in looks]
+    more = {name: getattr(looks[0], name) for name in ("calendar", "critical")}
+    bound = False if looks[0].bound is None else looks[0].bound
+    script = LOOKED + f"tell([told, listed, ...{json.dumps(states)}.map(looked)]);"
+    return Page(looks[0].made, script, more | {"bound": bound})
+
+
+def listed(rows: list[list[str]], is_dated: bool) -> list[list[str]]:
+    """The list of a machine: each date once, and no job that skips the machine."""
+    found, before = list[list[str]](), ""
+    for place, (job, _, *times) in enumerate(rows, 1):
+        if times[0] != times[1]:
+            days = [f"{datetime.date.fromisoformat(time[:10]):%a %Y-%m-%d}" if is_dated else "" for time in times]
+            start, end = (time[11:] if is_dated else time for time in times)
+            found += [[days[0]]] if days[0] != before else []
+            found.append([str(place), job, start, end if days[0] == days[1] else f"{days[1]} {end}"])
+            before = days[0]
     return found
 
 
-def assert_bars(sheet: Sheet, made: pfs.Schedule) -> None:
-    """A grey strip for each machine, and a bar at each operation that is seen, a pixel short of its end."""
-    first, last = sheet.view
-    strips = [Bar(machine, 0, made.makespan, IDLE) for machine in range(made.instance.machines)]
-    due = strips + [bar for bar in bars_due(made) if bar.start < last and bar.end > first]
-    for got, wanted in zip(sorted(sheet.bars, key=lambda bar: (bar.colour != IDLE, bar.machine)), due, strict=True):
-        assert (got.machine, got.colour) == (wanted.machine, wanted.colour), "machines and colours of the bars"
-        assert (got.start, got.end) == pytest.approx((wanted.start, wanted.end), abs=1.5 * sheet.unit), got
+PAGES = {name: page_of(looks) for name, looks in LOOKS.items()}
 
 
-# What is drawn of a plan, and what hands do with it: the page is looked at once
+@pytest.fixture(scope="module")
+def pages(chromium: str, tmp_path_factory: pytest.TempPathFactory) -> dict[str, Any]:
+    """What is seen of all pages."""
+    folder, frames = tmp_path_factory.mktemp("pages"), dict[str, tuple[str, int]]()
+    for name, page in PAGES.items():
+        with mock.patch.object(_chart, "MOST_LISTED", _chart.MOST_LISTED * page.is_listed):
+            page.made.plot(folder / "page.html", **page.more)
+        frames[name] = scripted(folder / "page.html", PEN + page.script), page.width
+    return all_looked_at(chromium, frames, folder)
 
-TOGETHER = pytest.mark.xdist_group("drawn page")
-TIP = "job table\nmachine saw\nstart 2.0\nend 5.0"
-TIP_OF_DRILL = "job table\nmachine drill\nstart 7.0\nend 9.5"
+
+@pytest.mark.seconds(20)
+@pytest.mark.parametrize("name", LOOKS)
+def test_a_chart_is_drawn_as_its_schedule_says(pages: dict[str, Any], name: str) -> None:
+    """And tells and lists the times of the CSV: with minutes below ten, decimals, ends of shifts, and later weeks."""
+    told, lists, *seen = pages[name]
+    for look, (calls, key) in zip(LOOKS[name], seen, strict=True):
+        assert_drawn(calls, look)
+        assert key == Layout(look).key(), look[4:]
+    rows = [line.split(",") for line in str(look.made.to_csv(calendar=look.calendar)).splitlines()[1:]]
+    at = Layout(look)
+    assert sorted(rows) == sorted([job, machine, *told[row][place]] for row, machine in enumerate(at.machines)
+                                  for place, job in enumerate(at.jobs))
+    assert lists == [listed([row for row in rows if row[1] == machine], bool(at.clock)) for machine in at.machines]
+
+
+# What hands do with a chart
+
+def schedule() -> pfs.Schedule:
+    return pfs.Instance(TIMES, name="plan", job_names=["table", "chair", "box"], decimals=1, unit="h",
+                        machine_names=MACHINES).schedule([1, 0, 2])
+
+
+TIP, TIP_OF_DRILL = "job table\nmachine saw\nstart 2.0\nend 5.0", "job table\nmachine drill\nstart 7.0\nend 9.5"
 FAR_IN, LEAVE, IN = 'press("+", "+", "+"); ', '; send("pointerleave", PointerEvent, 5, -5)', math.exp(-0.25)
-# What is done with the whole chart, of 125 units, the times that are seen then, and the text of the tip. A zoom by a
-# key keeps the middle, one by the wheel what is under the pointer, and one by two fingers the times under them. An
-# arrow moves by an eighth of what is seen. A finger is at the place that a time has in the whole chart.
+LIFT = "; lift(1); lift(2)"
+# What is done with the whole chart, of 125 units with 8 pixels each, the times that are seen then, and the text of the
+# tip. A zoom by a key keeps the middle, one by the wheel what is under the pointer, and one by two fingers the times
+# under them. An arrow moves by an eighth of what is seen. A finger is at the place that a time has in the whole chart.
 MOVES: dict[str, tuple[tuple[float, float], str]] = {
     'press("+")': ((12.5, 112.5), ""), 'press("+", "+", "+", "-")': ((22.5, 102.5), ""),
     'press("+", "+", "0")': ((0, 125), ""), 'press("x", "Enter", "1")': ((0, 125), ""),
@@ -126,29 +373,34 @@ MOVES: dict[str, tuple[tuple[float, float], str]] = {
     'press("+", "+", ...Array(80).fill("ArrowRight"))': ((45, 125), ""),
     'press("+", "+", ...Array(80).fill("ArrowLeft"))': ((0, 80), ""),
     'wheel(25, -1)': ((25 - 25 * IN, 25 + 100 * IN), ""), FAR_IN + 'wheel(from, 1)': ((30.5, 30.5 + 64 / IN), ""),
+    'wheel(25, -1, 0, 20)': ((25 - 25 * IN, 25 + 100 * IN), TIP),
+    FAR_IN + 'wheel(from, 1, 1)': ((30.5, 30.5 + 64 / IN), ""),
     FAR_IN + 'wheel(from, 1, plot() / 8)': ((38.5, 102.5), ""),
+    FAR_IN + 'wheel(from, 1, -plot() / 8)': ((22.5, 86.5), ""),
     'press("+"); send("dblclick", MouseEvent, left, 5)': ((0, 125), ""),
-    'hover(70)': ((0, 125), TIP_OF_DRILL), 'hover(0)': ((0, 125), ""),
-    'hover(70)' + LEAVE: ((0, 125), ""),
+    'hover(70)': ((0, 125), TIP_OF_DRILL), 'hover(0)': ((0, 125), ""), 'hover(70)' + LEAVE: ((0, 125), ""),
     FAR_IN + 'hover(70); send("pointermove", PointerEvent, width - RIGHT + 9, yOf(1) + ROW / 2)': ((30.5, 94.5), ""),
     'press("+", "+"); hover(70)': ((22.5, 102.5), TIP_OF_DRILL),
     'tap(25)': ((0, 125), TIP), 'tap(25); tap(5, 2)': ((0, 125), ""),
-    'touch(1, 25); slide(1, 25.1); lift(1)': ((0, 125), TIP),
+    FAR_IN + 'touch(1, 25); slide(1, 25.3125); lift(1)': ((30.5, 94.5), TIP),
+    FAR_IN + 'touch(1, 25); slide(1, 25.4375); lift(1)': ((30.276, 94.276), ""),
     'tap(25); document.body.dispatchEvent(new PointerEvent("pointerdown", {pointerId: 3, bubbles: true}))':
         ((0, 125), ""),
-    'touch(1, 50); touch(2, 75); slide(1, 37.5); slide(2, 87.5); lift(1); lift(2)': ((31.25, 93.75), ""),
-    'touch(1, 50); touch(2, 75); slide(1, 37.5); slide(2, 87.5); lift(1); lift(2); slide(1, 10); slide(2, 110)'
+    'touch(1, 25); touch(2, 75)' + LIFT: ((0, 125), TIP),
+    'touch(1, 50); touch(2, 75); slide(1, 37.5); slide(2, 87.5)' + LIFT + '; slide(1, 10); slide(2, 110)'
     + LEAVE: ((31.25, 93.75), ""),
-    'press("+", "+", "+", "+"); touch(1, 0); touch(2, 125); slide(1, 50); slide(2, 75); lift(1); lift(2)':
-        ((0, 125), ""),
+    'press("+", "+", "+", "+"); touch(1, 0); touch(2, 125); slide(1, 50); slide(2, 75)' + LIFT: ((0, 125), ""),
+    FAR_IN + 'touch(1, 50); touch(2, 75); slide(2, 50.875)' + LIFT + LEAVE: ((30.5, 94.5), ""),
+    FAR_IN + 'touch(1, 50); touch(2, 75); slide(2, 51)' + LIFT + LEAVE: ((0, 125), ""),
     FAR_IN + 'touch(1, 25); slide(1, 50); lift(1)': ((30.5 - 64 / 5, 94.5 - 64 / 5), ""),
     FAR_IN + 'touch(1, 25); lift(1, "pointercancel"); slide(1, 50)' + LEAVE: ((30.5, 94.5), ""),
     FAR_IN + 'touch(1, 25, MOUSE); slide(1, 50, MOUSE); lift(1)': ((30.5 - 64 / 5, 94.5 - 64 / 5), ""),
     FAR_IN + 'touch(1, 25, {...MOUSE, button: 2}); slide(1, 50, MOUSE)' + LEAVE: ((30.5, 94.5), ""),
     'canvas.style.width = "600px"; window.dispatchEvent(new Event("resize"))': ((0, 125), ""),
 }
-HANDS = """
+PAGES["hands"] = Page(schedule(), MEASURED + """
 const MOUSE = {pointerType: "mouse"};
+Object.assign(canvas.style, {position: "absolute", left: 0, width: "1119px"});
 function finger(kind, pointerId, time, machine, more) {
   const x = left + time / 125 * plot();
   send(kind, PointerEvent, x, yOf(machine) + ROW / 2, {pointerId, pointerType: "touch", ...more});
@@ -157,225 +409,82 @@ function touch(number, time, more) { finger("pointerdown", number, time, 0, more
 function slide(number, time, more) { finger("pointermove", number, time, 0, more); }
 function lift(number, kind = "pointerup") { finger(kind, number, 0, 0); finger("pointerleave", number, 0, 0); }
 function tap(time, machine = 0) { finger("pointerdown", 1, time, machine); lift(1); }
-function wheel(time, deltaY, deltaX = 0) { send("wheel", WheelEvent, xOf(time), 5, {deltaX, deltaY}); }
+function wheel(time, deltaY, deltaX = 0, y = 5) { send("wheel", WheelEvent, xOf(time), y, {deltaX, deltaY}); }
 function hover(time) { send("pointermove", PointerEvent, xOf(time) + 5, yOf(1) + ROW / 2); }
 function moved(done) {
   press("0");
   send("pointerleave", PointerEvent, 5, -5);
-  return {...drawnBy(done), tip: tip.hidden ? "" : tip.textContent};
+  done();
+  return {calls, from, to, tip: tip.hidden ? "" : tip.textContent};
 }
 function isTaken(type, kind, more) {
   const event = new type(kind, {bubbles: true, cancelable: true, ...more});
   canvas.dispatchEvent(event);
   return event.defaultPrevented;
 }
-const seen = {title: document.title, scale: canvas.width / canvas.clientWidth, moved: {}, taken: [],
-              action: getComputedStyle(canvas).touchAction};
-// Just after the starts of operations.
-seen.pixels = pixelsAt([...Array(9).keys()].map(
-  at => [xOf(table.starts[at % 3][at / 3 | 0]) + 3, yOf(at % 3) + ROW / 5]));
-seen.whole = moved(() => press("0"));
+draw();
+const seen = {moved: {}, taken: [], action: getComputedStyle(canvas).touchAction};
 press("+", "+");
-// No bar is drawn outside of the chart.
-seen.beside = pixelsAt([[left - 4, yOf(0) + ROW / 5], [width - RIGHT + 4, yOf(1) + ROW / 5]]);
 for (const [held, key] of ["ctrlKey", "altKey", "metaKey"].flatMap(held => Object.keys(KEYS).map(key => [held, key])))
   seen.taken.push(isTaken(KeyboardEvent, "keydown", {key, [held]: true}));
 seen.taken.push(isTaken(WheelEvent, "wheel", {deltaY: 1, ctrlKey: true}), from !== 22.5 || to !== 102.5);
 seen.own = [isTaken(KeyboardEvent, "keydown", {key: "+"}), isTaken(WheelEvent, "wheel", {deltaY: 1})];
-""" + "".join(f"seen.moved[{json.dumps(move)}] = moved(() => {{ {move}; }});\n" for move in MOVES) + "tell(seen);"
-
-
-@pytest.fixture(scope="module")
-def seen(chromium: str, tmp_path_factory: pytest.TempPathFactory) -> dict[str, Any]:
-    """What is seen of the page of three jobs."""
-    return seen_of(chromium, schedule(), tmp_path_factory.mktemp("seen"), HANDS, critical=True, bound=True)
-
-
-@pytest.fixture(scope="module")
-def whole(seen: dict[str, Any]) -> Sheet:
-    """The page as it is at first."""
-    return Sheet(seen["whole"], schedule().instance)
-
-
-@TOGETHER
-def test_the_bars_are_at_their_times_in_the_colours_of_the_picture(seen: dict[str, Any], whole: Sheet) -> None:
-    made, due = schedule(), {(bar.machine, bar.start): bar.colour for bar in bars_due(schedule())}
-    assert_bars(whole, made)
-    assert len({bar.colour for bar in whole.bars}) == 4
-    assert seen["scale"] == 1, "the chart is stretched: pointing at an operation finds another one"
-    got = dict(zip(((machine, float(made.starts[place, machine])) for place in range(3) for machine in range(3)),
-                   seen["pixels"]))
-    assert {at: got[at] for at in due} == due and seen["beside"] == ["#000000"] * 2
-
-
-@TOGETHER
-def test_what_is_written_on_bars_and_beside_them(seen: dict[str, Any], whole: Sheet) -> None:
-    made = schedule()
-    assert whole.names == MACHINES
-    assert "time (h)" in [text["text"] for text in whole.texts], "the unit of the times isn't shown"
-    # One operation takes no time; the others have room for their names, in the picture's ink.
-    inks = {text.get_text(): {"black": "#000000", "white": "#ffffff"}[text.get_color()]
-            for text in made.plot().axes[0].texts}
-    names = ["chair", "table", "box"]
-    assert whole.labels(made) == {(machine, place): (names[place], inks[names[place]]) for machine in range(3)
-                                  for place in range(3) if (machine, place) != (2, 1)}
-    assert all(re.fullmatch(r"[0-9]+\.[0-9]", mark) for mark in whole.marks.values()), "marks have the times' decimals"
-    gaps = [after - before for before, after in itertools.pairwise(sorted(whole.marks))]
-    assert len(gaps) >= 4 and min(gaps) >= 79, "marks stand too near to each other"
-    assert seen["title"] == f"plan: 3 jobs on 3 machines: makespan {made.makespan / 10} h, bound " \
-                            f"{made.instance.bound() / 10} (dashed), critical path outlined"
-    idle = [f"{100 - 100 * busy / made.makespan:.0f} %" for busy in (made.ends - made.starts).sum(axis=0).tolist()]
-    assert [text["text"] for text in whole.texts if text["x"] > whole.right and text["y"] in whole.rows] == [
-        idle[0] + " idle", *idle[1:]]
-
-
-@TOGETHER
-def test_the_bound_is_a_dashed_line_and_the_critical_path_is_outlined(whole: Sheet) -> None:
-    """The line is on a white one that is wider. Outlines lead from 0 to the makespan, each over operations without idle
-    time, and the next one begins on the next machine where this one ends."""
-    made = schedule()
-    bound = made.instance.bound()
-    assert bound < made.makespan
-    found = [line for line in whole.lines if line[4] != "#888888"]
-    assert [(line[4], line[5]) for line in found] == [("#ffffff", []), ("#000000", [6, 4])], "a white and a dashed line"
-    assert found[0][6] > found[1][6], "the white line is the wider one"
-    for x, top, end, bottom, *_ in found:
-        assert x == end and whole.time(x) == pytest.approx(bound, abs=whole.unit), "the bound's line"
-        assert top < whole.rows[0] - 10 and bottom > whole.rows[-1] + 10
-    time = 0
-    for machine, box in enumerate(whole.boxes):
-        start, end = round(box.start), round(box.end)
-        assert (start, *box[3:], box.machine) == (time, "#000000", 2, machine), f"the path at {time}"
-        inside = (made.starts[:, machine] >= start) & (made.ends[:, machine] <= end)
-        assert int((made.ends - made.starts)[inside, machine].sum()) == end - start, f"idle time on the path: {box}"
-        time = end
-    assert (time, len(whole.boxes)) == (made.makespan, 3), "the end of the path"
-    # Two operations follow each other on the second machine.
-    assert [round(box.end - box.start) for box in whole.boxes] == [20, 85, 20]
-
-
-@TOGETHER
-@pytest.mark.parametrize("move", MOVES)
-def test_what_hands_do_with_a_chart(seen: dict[str, Any], move: str) -> None:
-    """The bars are where the scale says. The operation that one points at has a tip and a wide outline, and its
-    job's other operations have narrower ones."""
-    made, drawn, (view, tip) = schedule(), seen["moved"][move], MOVES[move]
-    sheet = Sheet(drawn, made.instance)
-    assert (drawn["from"], drawn["to"]) == pytest.approx(view, abs=0.05)
-    assert sheet.view == pytest.approx(view, abs=1.5 * sheet.unit), "the scale"
-    assert (sheet.right < 600) == ("600px" in move)
-    assert_bars(sheet, made)
-    boxes = [box for box in sheet.boxes if box.line != 2]
-    wide = MACHINES.index(tip.split()[3]) if tip else -1
-    assert drawn["tip"] == tip
-    assert [(box.machine, box.line) for box in boxes] == [(at, 3 if at == wide else 1.5) for at in (0, 1) if tip]
-    for box in boxes:
-        assert (box.start, box.end) == pytest.approx((made.starts[1, box.machine], made.ends[1, box.machine]),
-                                                     abs=4 * sheet.unit)
-
-
-@TOGETHER
-def test_keys_the_wheel_and_fingers_that_scroll_are_the_browsers(seen: dict[str, Any]) -> None:
-    assert seen["taken"] == [False] * 17 and seen["own"] == [True, True] and seen["action"] == "pan-y"
-
-
-WHOLE = "tell({...drawnBy(() => press('0')), pixels: pixelsAt(PLACES), scale: canvas.width / canvas.clientWidth, " \
-        "height: canvas.height, title: document.title});"
-
-
-@pytest.mark.seconds(5)
-def test_a_page_without_bound_and_path_and_one_without_work(chromium: str, tmp_path: pathlib.Path) -> None:
-    """The first one on a screen with more pixels."""
-    places = "[[xOf(table.starts[1][0]) + 5, yOf(1) + ROW / 5], [xOf(table.ends[2][2]) - 5, yOf(2) + ROW / 5]]"
-    made = schedule()
-    seen = seen_of(chromium, made, tmp_path, WHOLE.replace("PLACES", places), scale=2)
-    sheet = Sheet(seen, made.instance)
-    assert seen["title"] == f"plan: 3 jobs on 3 machines: makespan {made.makespan / 10} h"
-    assert_bars(sheet, made)
-    assert sheet.boxes == [] and {line[4] for line in sheet.lines} == {"#888888"}
-    due = {(bar.machine, bar.start): bar.colour for bar in bars_due(made)}
-    assert seen["scale"] == 2
-    assert seen["pixels"] == [due[machine, int(made.starts[place, machine])] for machine, place in ((1, 0), (2, 2))]
-    made = pfs.Instance([[0, 0], [0, 0]], machine_names=["saw", "drill"]).schedule([0, 1])
-    texts = seen_of(chromium, made, tmp_path, WHOLE.replace("PLACES", "[]"))["texts"]
-    assert [text["text"] for text in texts if text["align"] == "right"] == ["saw", "drill"]
-    assert not [text for text in texts if "%" in text["text"] or "NaN" in text["text"]]
-
-
-@pytest.mark.seconds(15)
-@pytest.mark.parametrize(("jobs", "machines"), [(500, 20), (5_000, 1), (5_000, 200)])
-def test_a_chart_of_many_operations(chromium: str, tmp_path: pathlib.Path, jobs: int, machines: int) -> None:
-    """Where a machine is busy for a whole pixel, an operation that it makes there is drawn, in its job's colour."""
-    made, each = pfs.generate(jobs, machines, 7).schedule(range(jobs)), 10 if machines >= 100 else 1
-    middles = "[...Array(machines).keys()].map(at => [xOf((table.starts[at][0] + table.ends[at][jobs - 1]) / 2), " \
-              "yOf(at) + ROW / 2])"
-    # Of many machines the first of each ten.
-    script = WHOLE.replace("PLACES", middles).replace("tell(", "tellSome(") + """
-    function tellSome(seen) {
-      tell({...seen, fills: seen.fills.filter(fill => machines < 100 || Math.floor((fill[1] - TOP) / ROW) % 10 === 0)});
-    }"""
-    drawn = seen_of(chromium, made, tmp_path, script)
-    greys = [colorsys.rgb_to_hsv(*(int(pixel[at:at + 2], 16) for at in (1, 3, 5)))[1] == 0 for pixel in drawn["pixels"]]
-    assert sum(greys) < 0.3 * machines, "the chart is blank"
-    rows = sorted({fill[1] for fill in drawn["fills"]})
-    assert len(rows) == machines // each and drawn["height"] >= rows[0] + 14 * machines + 40, "rows and scale have room"
-    names = [text for text in drawn["texts"] if text["align"] == "right"]
-    assert names[0]["text"] == "0" and len(names) == machines, "machines have names"
-    for heights in (rows, [text["y"] for text in names]):
-        assert min([after - before for before, after in itertools.pairwise(heights)], default=14) >= 14
-    unit = made.makespan / (drawn["right"] - drawn["left"])
-    for machine, row in enumerate(rows):
-        bars = [((x - drawn["left"]) * unit, wide * unit, colour) for x, y, wide, _, colour in drawn["fills"]
-                if y == row and colour != IDLE]
-        assert_columns(bars, made, machine * each, unit)
-
-
-def assert_columns(bars: list[tuple[float, float, str]], made: pfs.Schedule, machine: int, unit: float) -> None:
-    """The bars that are drawn of a machine leave no gap in which it is busy for more than two pixels, and each has the
-    colour of the operation that starts there."""
-    colours = [*map(hexadecimal, _drawing.colours(range(1, len(made.order) + 1)))]
-    starts, ends = made.starts[:, machine], made.ends[:, machine]
-    places = {start: place for place, start in enumerate(starts.tolist()) if ends[place] > start}
-    due = [colours[places[round(start)]] if round(start) in places else "none" for start, _, _ in bars]
-    assert [colour for _, _, colour in bars] == due, f"colours of machine {machine}"
-    # How long the machine has been busy at each end and start of what is drawn.
-    times = [0, *(time for start, long, _ in bars for time in (start, start + long)), made.makespan]
-    busy = np.interp(times, np.ravel((starts, ends), "F"), np.cumsum(np.ravel((0 * starts, ends - starts), "F")))
-    assert max(busy[1::2] - busy[::2]) <= 2.5 * unit, f"machine {machine} is busy where nothing is drawn"
-
-
-# On a dark screen, and what paper has of colours
-
-DARK, FORCED = "--blink-settings=preferredColorScheme=0", "--enable-features=WebContentsForceDark"  # 0 is dark
-COLOURS = """
-function now(done) {
-  const {texts, fills, boxes} = drawnBy(done);
-  return {letters: [...new Set(texts.filter(text => text.align === "right").map(text => text.colour))],
-          idle: fills[0][4], boxes: [...new Set(boxes.map(box => box[4]))], size: [canvas.width, canvas.height]};
-}
-const body = getComputedStyle(document.body), seen = {
-  screen: now(() => press("0")), page: [body.color, body.backgroundColor], paper: now(beginPrint),
-  after: now(endPrint)};
-drawn.fills = [];
+""" + "".join(f"seen.moved[{json.dumps(move)}] = moved(() => {{ {move}; }});\n" for move in MOVES) + """
+calls = [];
 isDark.dispatchEvent(new Event("change"));
-tell({...seen, isFollowed: drawn.fills.length > 0});
-"""
+tell({...seen, isFollowed: calls.length > 0});
+""", {"critical": True, "bound": True})
 
 
-@pytest.mark.seconds(5)
-@pytest.mark.parametrize("flags", [(), (DARK,), (FORCED,), (DARK, FORCED)], ids=["light", "dark", "forced", "both"])
-def test_a_dark_screen_has_colours_of_its_own_and_paper_is_white(flags: tuple[str, ...], chromium: str,
-                                                                 tmp_path: pathlib.Path) -> None:
-    """Also where the browser would darken the pages that have none, which leaves charts alone."""
-    seen = seen_of(chromium, schedule(), tmp_path, COLOURS, flags=flags, critical=True, bound=True)
-    light = {"letters": ["#111111"], "idle": IDLE, "boxes": ["#000000"]}
-    due = {"letters": ["#e8e6e3"], "idle": "#3c4043", "boxes": ["#ffffff"]} if DARK in flags else light
-    size = seen["screen"].pop("size")
-    assert seen["paper"].pop("size")[0] == 4 * 1040 and seen["after"].pop("size") == size
-    assert (seen["screen"], seen["paper"], seen["after"]) == (due, light, due)
+@pytest.mark.parametrize("move", MOVES)
+def test_what_hands_do_with_a_chart(pages: dict[str, Any], move: str) -> None:
+    """The operation that one points at has a tip and a wide outline, and its job's other operations narrower ones."""
+    made, drawn, (view, tip) = schedule(), pages["hands"]["moved"][move], MOVES[move]
+    assert (drawn["from"], drawn["to"], drawn["tip"]) == (*(pytest.approx(time) for time in view), tip)
+    assert_drawn(drawn["calls"], Look(
+        made, None, True, made.instance.bound(), 600 if "600px" in move else 1119, drawn["from"], drawn["to"],
+        pointed=(MACHINES.index(tip.split()[3]), 1) if tip else None))
+
+
+def test_keys_the_wheel_and_fingers_that_scroll_are_the_browsers(pages: dict[str, Any]) -> None:
+    seen = pages["hands"]
+    assert seen["taken"] == [False] * 17 and seen["own"] == [True, True] and seen["action"] == "pan-y"
     assert seen["isFollowed"], "where the screen becomes dark later, the chart stays as it is"
-    letters, ground = (sum(int(part) for part in re.findall(r"\d+", colour)[:3]) / 765 for colour in seen["page"])
-    assert (letters > 0.8 and ground < 0.2) if DARK in flags else (letters < 0.2 and ground > 0.8)
+
+
+# Functions of the page, each with many arguments
+
+DRAWS = random.Random(7)
+XS = [-1, 0, *(time for row in FITTING.made.ends.T.tolist() for time in row), 1024, 1050]
+YS = [5, 6, 24, 41.5, 42, 77.5, 78, 113.5, 114]
+POINTS = [(40 + DRAWS.choice(XS) + DRAWS.choice([-0.5, 0, 0.5]), DRAWS.choice(YS)) for _ in range(600)]
+POINTERS = [(45, 10), (900, 100), (560, 20), (990, 110), (700, 140)]
+PAGES["functions"] = Page(FITTING.made, MEASURED + f"""
+Object.assign(canvas.style, {{position: "absolute", left: 0, top: 0, width: "1140px"}});
+draw();
+const points = {json.dumps(POINTS)}.map(([x, y]) => operationAt(x, y)), tips = {json.dumps(POINTERS)}.map(([x, y]) => {{
+  send("pointermove", PointerEvent, x, y);
+  const {{offsetLeft, offsetTop, offsetWidth, offsetHeight}} = tip;
+  return [tip.hidden, offsetLeft, offsetTop, offsetLeft + offsetWidth, offsetTop + offsetHeight];
+}});
+tell({{points, tips, size: [window.innerWidth, window.innerHeight]}});
+""")
+
+
+def test_the_operation_at_a_point(pages: dict[str, Any]) -> None:
+    at, due = Layout(FITTING), list[list[int] | None]()
+    for x, y in POINTS:
+        machine = math.floor((y - at.top) / at.row)
+        spans = at.spans(machine) if 0 <= machine < 3 and at.left <= x <= at.right else []
+        due.append(next(([machine, place] for place, (start, end) in enumerate(spans) if start <= x - 40 < end), None))
+    assert pages["functions"]["points"] == due and 200 < due.count(None) < 400
+
+
+def test_a_tip_is_next_to_the_pointer_and_in_the_window(pages: dict[str, Any]) -> None:
+    wide, high = pages["functions"]["size"]
+    for (x, y), (is_hidden, left, top, right, bottom) in zip(POINTERS, pages["functions"]["tips"], strict=True):
+        assert is_hidden == (y > 114)
+        assert is_hidden or 0 == max(left - x - 14, right - wide + 8) == max(top - y - 14, bottom - high + 8), (x, y)
 
 
 # Names that a page, a template or a replacement could take for something else
@@ -386,8 +495,14 @@ DANGEROUS = [
     "<!--<script>", "]]>", "&lt;b&gt;&amp;", "\\u003cb\\u003e", "\\g<0> \\1 $& $1", "a\u2028b\u2029c", "__proto__",
     "${document.title='PWNED'}", "javascript:document.title='PWNED'", "\u202eright to left", "</title><b>",
 ]
-# The page's title, heading, elements with their attributes, and what it says of each operation.
-STRUCTURE = """
+UNIT = "{{data}} \"><b onclick=x></title><script>document.title='PWNED'</script>"
+
+
+def of_names(names: list[str], name: str, unit: str) -> Page:
+    """The page's title, heading, elements with their attributes, and what it says of each operation."""
+    shop = pfs.Instance([[20 + at, 10] for at in range(len(names))], name=name, unit=unit, job_names=names,
+                        machine_names=[f"saw {names[0]}", f"drill {names[-1]}"])
+    return Page(shop.schedule(range(len(names))), """
 const seen = {titles: [document.title, document.querySelector("h1").textContent, canvas.getAttribute("aria-label")],
               focus: document.activeElement.tagName};
 sought = new Set([0, 1]);
@@ -399,22 +514,17 @@ seen.tips = [...table.jobs.keys()].map(place => {
   return tip.textContent;
 });
 tell(seen);
-"""
+""", {"critical": True, "bound": True})
 
 
-@pytest.mark.seconds(10)
-def test_no_name_becomes_a_part_of_the_page(chromium: str, tmp_path: pathlib.Path) -> None:
-    unit = "{{data}} \"><b onclick=x></title><script>document.title='PWNED'</script>"
-    found = []
-    for names, file, of in (([f"job {at}" for at in range(len(DANGEROUS))], "plan.csv", "h"),
-                            (DANGEROUS, f"{unit}.csv", unit)):
-        shop = pfs.Instance([[20 + at, 10] for at in range(len(names))], name=file, unit=of, job_names=names,
-                            machine_names=[f"saw {names[0]}", f"drill {names[-1]}"])
-        made = shop.schedule(range(len(names)))
-        found.append(seen_of(chromium, made, tmp_path, STRUCTURE, critical=True, bound=True))
-    due, seen = found
-    title = due["titles"][0].removeprefix("plan.csv").replace(" h,", f" {unit},")
-    assert seen["titles"] == [f"{unit}.csv{title}"] * 3
+PAGES |= {"harmless": of_names([f"job {at}" for at in range(len(DANGEROUS))], "plan.csv", "h"),
+          "dangerous": of_names(DANGEROUS, f"{UNIT}.csv", UNIT)}
+
+
+def test_no_name_becomes_a_part_of_the_page(pages: dict[str, Any]) -> None:
+    due, seen, made = pages["harmless"], pages["dangerous"], PAGES["dangerous"].made
+    title = due["titles"][0].removeprefix("plan.csv").replace(" h,", f" {UNIT},")
+    assert seen["titles"] == [f"{UNIT}.csv{title}"] * 3
     assert seen["elements"] == due["elements"], "a name has made an element or an attribute"
     assert seen["focus"] == due["focus"] == "BODY"
     shown = {"a\u2028b\u2029c": "a\\u2028b\\u2029c", "\u202eright to left": "\\u202eright to left"}
@@ -426,19 +536,21 @@ def test_no_name_becomes_a_part_of_the_page(chromium: str, tmp_path: pathlib.Pat
 def test_the_policy_keeps_other_scripts_and_styles_out(chromium: str, tmp_path: pathlib.Path) -> None:
     injected = ("<script>document.title = 'PWNED'</script><style>h1 { display: none }</style>"
                 "<img src='data:image/png;base64,x' onerror=\"document.title = 'PWNED'\">")
-    schedule().plot(tmp_path / "chart.html")
+    schedule().plot(tmp_path / "chart.html", bound=True, critical=True)
     script = PEN + "tell([document.title, ...[document.querySelector('h1'), canvas].map(" \
                    "each => getComputedStyle(each).display)]);"
-    title, heading, chart = looked_at(chromium, tmp_path / "chart.html", tmp_path, script, injected)
-    assert title.startswith("plan: 3 jobs on 3 machines: makespan"), "the page's policy lets a foreign script in"
+    title, heading, chart = looked_at(chromium, scripted(tmp_path / "chart.html", script, injected), tmp_path)
+    assert title == "plan: 3 jobs on 3 machines: makespan 12.5 h, bound 11.5 (dashed), critical path outlined"
     assert heading == "block", "the page's policy lets a foreign style in"
     assert chart == "block", "the page's policy keeps its own style out"
     text = (tmp_path / "chart.html").read_text("utf-8")
     assert "default-src 'none'" in text and "unsafe" not in text and text.count("</script>") == 2
     assert not re.search(r"""(?:src|href)\s*=|url\(|@import|https?:|fetch\(|XMLHttp|import\(""", text)
+    lists = text[text.index('<div id="lists">'):text.index('<script type="application/json"')]
+    assert '<div id="drawn" hidden>' in text and "<noscript>" in text and "hidden" not in lists, "without scripts"
 
 
-# Operations whose bars are too short for a name: places with a key, a search for a job, and a list of each machine
+# A search for a job, and a list of each machine
 
 # The bars of the first job are long, and those of the others short or very short.
 LENGTHS = [[400, 300, 500], [40, 12, 40], [40, 40, 0], [12, 1, 40], [40, 40, 40]]
@@ -451,263 +563,255 @@ def plan(names: Sequence[str] | None = NAMES, times: Any = LENGTHS) -> pfs.Sched
     return pfs.Instance(times, job_names=names, machine_names=MACHINES, name="plan", unit="min").schedule(ORDER)
 
 
-# The texts of bars, by machine and place, and the key: on the screen, on paper, and after it.
-SEEN = """
-function now(done) {
-  const {texts} = drawnBy(done), bars = {};
-  for (const {text, x, y} of texts) {
-    const machine = Math.floor((y - TOP) / ROW), place = machine < machines ? firstAfter(machine, timeAt(x)) : jobs;
-    if (x > left && x < width - RIGHT && place < jobs) bars[`${machine} ${place}`] = text;
-  }
-  return {bars, key: [...places.querySelectorAll("li")].map(item => item.textContent),
-          colours: [...places.querySelectorAll("span")].map(square => square.style.color),
-          display: getComputedStyle(places).display, open: places.open};
-}
-tell({screen: now(() => press("0")), paper: now(() => window.dispatchEvent(new Event("beforeprint"))),
-      after: now(() => window.dispatchEvent(new Event("afterprint")))});
-"""
-
-
-@pytest.mark.seconds(5)
-@pytest.mark.parametrize(("names", "sign"), [(NAMES, ""), (["4711", *NAMES[1:]], "#")])
-def test_bars_have_names_or_places_of_a_key(chromium: str, tmp_path: pathlib.Path, names: list[str], sign: str) -> None:
-    """A place has a sign where names are numbers too. The key is opened on paper."""
-    seen = seen_of(chromium, plan(names), tmp_path, SEEN)
-    screen, paper = seen["screen"], seen["paper"]
-    for bars in (screen["bars"], paper["bars"]):
-        assert all(text in (names[ORDER[int(bar[-1])]], f"{sign}{int(bar[-1]) + 1}") for bar, text in bars.items())
-    due = {"0 0": names[0], "1 0": names[0], "2 0": names[0], "0 1": f"{sign}2", "1 1": f"{sign}2", "2 2": f"{sign}3"}
-    assert due.items() <= paper["bars"].items(), "long bars have names, and short ones places"
-    assert "1 4" not in paper["bars"], "a bar for which both are too long"
-    assert paper["key"] == [f"\u25a0 {sign}{place} {names[job]}" for place, job in enumerate(ORDER, 1)]
-    squares = [[int(part) for part in re.findall(r"\d+", colour)] for colour in paper["colours"]]
-    assert squares == [[round(255 * part) for part in fill] for fill in _drawing.colours([job + 1 for job in ORDER])]
-    assert [(seen[when]["display"], seen[when]["open"]) for when in ("screen", "paper", "after")] == [
-        ("block", False), ("block", True), ("block", False)]
-    assert f"{sign}2" in screen["bars"].values() and seen["after"] == screen
-
-
-def test_a_long_name_is_cut_where_its_bar_ends(chromium: str, tmp_path: pathlib.Path) -> None:
-    """After its place, and more of it on a longer bar. The key has all of it. A machine's leaves room for the bars."""
-    name = "table of oak " * 30
-    seen = seen_of(chromium, plan([name, *NAMES[1:]]), tmp_path, SEEN)
-    cut = [seen["screen"]["bars"][f"{machine} 0"] for machine in range(3)]
-    assert all(text[-1] == "\u2026" and f"1 {name}".startswith(text[:-1]) for text in cut)
-    assert 20 < len(cut[1]) < len(cut[0]) < len(cut[2]) and seen["paper"]["key"][0] == f"\u25a0 1 {name}"
-    made = pfs.Instance(LENGTHS, machine_names=[name, *MACHINES[1:]]).schedule(ORDER)
-    seen = seen_of(chromium, made, tmp_path, WHOLE.replace("PLACES", "[]"))
-    assert seen["right"] - seen["left"] > 500
-
-
-@pytest.mark.parametrize(("names", "times"), [(None, LENGTHS), ([*"abcde"], [[100, 100, 100]] * 5)])
-def test_no_key_without_names_or_where_all_fit(chromium: str, tmp_path: pathlib.Path, names: list[str] | None,
-                                               times: list[list[int]]) -> None:
-    seen = seen_of(chromium, plan(names, times), tmp_path, SEEN)
-    assert seen["paper"]["key"] == [] and seen["paper"]["display"] == "none"
-    assert set(seen["paper"]["bars"].values()) <= set(names or "01234")
-
-
-SOUGHT = """
+def of_search(made: pfs.Schedule, *texts: str) -> Page:
+    return Page(made, """
 function rows() {
-  return [...document.querySelectorAll("table:not([hidden])")].map(made => ({
-    caption: made.caption.textContent, heads: [...made.tHead.rows[0].cells].map(cell => [cell.textContent, cell.scope]),
-    rows: [...made.tBodies[0].rows].map(row => [...row.cells].map(cell => cell.textContent))}));
+  return [...document.querySelectorAll("table:not([hidden])")].map(({caption, tHead, tBodies}) => [
+    caption.textContent, [...tHead.rows[0].cells].map(cell => `${cell.scope} ${cell.textContent}`),
+    ...[...tBodies[0].rows].map(row => [...row.cells].map(cell => cell.textContent))]);
 }
 function type(text) {
   field.value = text;
+  calls = [];
   field.dispatchEvent(new Event("input"));
-  const middles = table.starts[0].map((start, place) => [xOf((start + table.ends[0][place]) / 2), yOf(0) + ROW / 5]);
-  return {found: byId("found").textContent, lists: rows(), dim: sought?.size,
-          strong: pixelsAt(middles).map((colour, place) => colour === table.fills[place])};
+  return [byId("found").textContent, rows(), [...sought ?? []], calls.length > 0];
 }
 const seen = {choices: [...choice.options].map(option => option.textContent)};
 for (const text of TEXTS) seen[text] = type(text);
-seen.again = type("");
 for (const value of ["drill", "all", "none"]) {
   choice.selectedIndex = seen.choices.indexOf(value);
   choice.dispatchEvent(new Event("change"));
   seen[`choice ${value}`] = rows();
 }
-seen.reached = [field, choice, print, paper].map(each =>
-  [each.tabIndex, each.labels.length, each.labels[0].firstChild.textContent.trim()]);
-seen.role = byId("found").getAttribute("role");
+seen.reached = [canvas, field, choice, print, paper].map(({tabIndex, type, role, autocomplete, labels}) =>
+  [tabIndex, type ?? role, autocomplete, labels?.[0].firstChild.textContent.trim()]);
+seen.roles = [byId("found").role, tip.role];
 const submit = new Event("submit", {cancelable: true});
 document.querySelector("form").dispatchEvent(submit);
-seen.stays = submit.defaultPrevented;
-tell(seen);
-"""
+tell({...seen, stays: submit.defaultPrevented});
+""".replace("TEXTS", json.dumps(texts)))
+
+
 # What is typed, and the jobs that are found. A name that is typed in full is that job's alone.
 FOUND: dict[str, list[int]] = {"box": [4], "BOX": [4], " box ": [4], "shelf": [3], "o": [2, 4], "a": [1], "nothing": [],
                                "": []}
+MANY_NAMES = [f"{'x' if at < 20 else 'y'} {at}" for at in range(41)]
+PAGES |= {"sought": of_search(plan(SHORT_NAMES), *FOUND),
+          "many sought": of_search(pfs.Instance([[3]] * 41, job_names=MANY_NAMES).schedule(range(41)), "x", "y")}
 
 
-def heads(*names: str) -> list[list[str]]:
-    return [[name, "col"] for name in names]
-
-
-@pytest.mark.seconds(4)
-def test_jobs_that_are_sought_and_machines_are_listed(chromium: str, tmp_path: pathlib.Path) -> None:
-    """Without a mouse. The bars of the other jobs are pale."""
-    made = plan(SHORT_NAMES)
-    seen = seen_of(chromium, made, tmp_path, SOUGHT.replace("TEXTS", json.dumps([*FOUND])))
+def test_jobs_that_are_sought_and_machines_are_listed(pages: dict[str, Any]) -> None:
+    """Without a mouse."""
+    made, seen = plan(SHORT_NAMES), pages["sought"]
+    heads = ["col machine", "col start", "col end"], ["col place", "col job", "col start", "col end"]
+    times = [[[machine, str(start), str(end)] for machine, start, end in zip(MACHINES, *row) if start < end]
+             for row in zip(made.starts, made.ends)]
     for text, jobs in FOUND.items():
         places = sorted(ORDER.index(job) for job in jobs)
-        got = seen[text]
-        assert got["found"] == ("" if not text else f"{len(jobs)} job{'' if len(jobs) == 1 else 's'} found"), text
-        assert got["lists"] == [
-            {"caption": f"Job {SHORT_NAMES[ORDER[place]]}, place {place + 1}",
-             "heads": heads("machine", "start", "end"), "rows": [
-                 [machine, str(start), str(end)]
-                 for machine, start, end in zip(MACHINES, made.starts[place], made.ends[place]) if start < end]}
-            for place in places], text
-        assert got["strong"] == [not places or place in places for place in range(5)], text
-    [listed] = seen["choice drill"]
-    assert listed == {"caption": "Machine drill", "heads": heads("place", "job", "start", "end"), "rows": [
-        [str(place), SHORT_NAMES[job], str(start), str(end)]
-        for place, (job, start, end) in enumerate(zip(ORDER, made.starts[:, 1], made.ends[:, 1]), 1)]}
-    assert seen["choices"] == ["none", "all", *MACHINES] and seen["choice none"] == []
-    assert [each["caption"] for each in seen["choice all"]] == [f"Machine {name}" for name in MACHINES]
-    assert len(seen["choice all"][2]["rows"]) == 4, "no job that skips the machine"
-    assert seen["again"] == seen[""] and seen["reached"] == [
-        [0, 1, label] for label in ("Find a job:", "List a machine:", "Print:", "on")]
-    assert seen["role"] == "status" and seen["stays"], "Enter leaves the page as it is"
-
-
-@pytest.mark.seconds(4)
-def test_of_many_jobs_the_first_are_listed(chromium: str, tmp_path: pathlib.Path) -> None:
-    made = pfs.Instance(pfs.generate(300, 5, 7).times, job_names=[f"job {job}" for job in range(300)])
-    seen = seen_of(chromium, made.schedule(range(300)), tmp_path, SOUGHT.replace("TEXTS", '["job"]'))["job"]
-    assert seen["found"] == "300 jobs found, the first 20 are listed below" and seen["dim"] == 300
-    assert [each["caption"] for each in seen["lists"]] == [f"Job job {job}, place {job + 1}" for job in range(20)]
+        lists = [[f"Job {SHORT_NAMES[ORDER[place]]}, place {place + 1}", heads[0], *times[place]] for place in places]
+        said = f"{len(jobs)} job{'' if len(jobs) == 1 else 's'} found" if text else ""
+        assert seen[text] == [said, lists, places, True], text
+    assert seen["choice all"] == [[f"Machine {machine}", heads[1], *(
+        [str(place), SHORT_NAMES[ORDER[place - 1]], *row[1:]] for place, rows in enumerate(times, 1) for row in rows
+        if row[0] == machine)] for machine in MACHINES]
+    assert seen["choice drill"] == seen["choice all"][1:2] and seen["choice none"] == []
+    assert seen["choices"] == ["none", "all", *MACHINES] and seen["roles"] == ["status"] * 2
+    assert seen["reached"] == [[0, "img", None, None], [0, "search", "off", "Find a job:"], *(
+        [0, "select-one", "", label] for label in ("List a machine:", "Print:", "on"))]
+    assert seen["stays"], "Enter leaves the page as it is"
+    for text, many, first in (("x", 20, 0), ("y", 21, 20)):
+        said, lists, places, _ = pages["many sought"][text]
+        assert said == f"{many} jobs found" + (", the first 20 are listed below" if many > 20 else "")
+        assert [each[0] for each in lists] == [
+            f"Job {MANY_NAMES[place]}, place {place + 1}" for place in places[:20]] and len(places) == many
 
 
 # Paper
 
 # The plan takes six days, after whose first one a day is closed. What is chosen before the page is printed.
 DATES = pfs.Calendar("2026-12-03T06:00", "06:00-10:00", closed="2026-12-04")
-CHOSEN = """
-for (const [name, value] of Object.entries(%s)) {
-  document.getElementById(name).value = value;
-  document.getElementById(name).dispatchEvent(new Event("change"));
-}
-"""
+CHOSEN = """for (const [id, value] of Object.entries(%s)) {
+  byId(id).value = value;
+  byId(id).dispatchEvent(new Event("change"));
+}"""
 A4, A3, UPRIGHT = (842, 595), (1191, 842), (595, 842)
-
-
-def sizes_of(pdf: bytes) -> list[tuple[float, float]]:
-    """Width and height of each page of a PDF file, in points."""
-    return [(float(wide), float(high)) for wide, high in re.findall(rb"/MediaBox \[0 0 ([\d.]+) ([\d.]+)\]", pdf)]
-
-
-def generated(jobs: int, machines: int, name: str = "") -> pfs.Schedule:
-    names = [f"{name} {4000 + job}, Lack" for job in range(jobs)] if name else None
-    shop = pfs.generate(jobs, machines, 7)
-    return pfs.Instance(shop.times, job_names=names, unit="min").schedule(range(jobs))
 
 
 @pytest.mark.seconds(8)
 @pytest.mark.parametrize(("what", "chosen", "sizes"), [
-    ((4, 4), {}, [A4]), ((500, 20), {}, [A4]), ((30, 200), {}, [A4]),
-    ((20, 5, "Auftrag"), {}, [A4]), ((500, 5, "Auftrag"), {}, [A4] * 3),
-    ((), {"paper": "A3"}, [A3]), ((), {"print": "days"}, [A4] * 6), ((), {"print": "days", "paper": "A3"}, [A3] * 6),
+    ((4, 4), {}, [A4]), ((30, 200), {}, [A4]), ((20, 5, "Auftrag"), {}, [A4]), ((500, 5, "Auftrag"), {}, [A4] * 3),
+    ((), {"paper": "A3"}, [A3]), ((), {"print": "days"}, [A4] * 6),
     ((), {"listed": "all"}, [A4, UPRIGHT, UPRIGHT, UPRIGHT])])
 def test_what_is_printed(chromium: str, tmp_path: pathlib.Path, what: tuple[Any, ...], chosen: dict[str, str],
                          sizes: list[tuple[int, int]]) -> None:
     """A page of what is shown, with a key if bars lack names, or one for each day; and one for the list of each
-    machine. The same from a narrow window and from a wide one."""
-    made = generated(*what) if what else plan()
-    made.plot(tmp_path / "chart.html", calendar=None if what else DATES)
-    page = with_script(tmp_path / "chart.html", tmp_path, CHOSEN % json.dumps(chosen))
-    pdfs = [printed(chromium, page, tmp_path, width) for width in ((500, 1920) if len(what) == 2 else (1000,))]
-    assert sizes_of(pdfs[0]) == [pytest.approx(size, abs=2) for size in sizes]
-    sums = {hashlib.sha256(re.sub(rb"/(CreationDate|ModDate) \(.*?\)", b"", pdf)).hexdigest() for pdf in pdfs}
-    assert len(sums) == 1, "the window's width is seen on paper"
+    machine."""
+    made, page = generated(*what) if what else plan(), tmp_path / "chart.html"
+    made.plot(page, calendar=None if what else DATES)
+    page.write_text(scripted(page, CHOSEN % json.dumps(chosen)), "utf-8")
+    boxes = re.findall(rb"/MediaBox \[0 0 ([\d.]+) ([\d.]+)\]", printed(chromium, page, tmp_path))
+    assert [tuple(map(float, box)) for box in boxes] == [pytest.approx(size, abs=2) for size in sizes], "in points"
     text = output_of([tool("pdftotext"), "page.pdf", "-"], tmp_path)
     assert not re.search("Find a job|Point at|Places of", text) and made.instance.name in text
     assert what or ("idle" in text) == ("print" not in chosen), "the chart of the window beside the days, or none"
 
 
-def test_the_sheet_of_a_day_has_its_jobs(chromium: str, tmp_path: pathlib.Path) -> None:
-    script = """
-    press("+");
-    const seen = {before: [from, to]};
-    beginPrint();
-    beginPrint();
-    seen.sheets = [...sheets.children].map(sheet => [sheet.querySelector("h2").textContent,
-      [...sheet.querySelectorAll("li")].map(item => item.textContent), sheet.querySelector("canvas").width]);
-    seen.charts = document.querySelectorAll("#chart").length;
-    endPrint();
-    tell({...seen, after: [from, to], left: sheets.children.length, names: drawnBy(() => show(10, 50)).texts
-      .filter(({x}) => x > left && x < width - RIGHT).map(({text}) => text)});
-    """
-    made = plan()
-    seen = seen_of(chromium, made, tmp_path, CHOSEN % '{"print": "days"}' + script, calendar=DATES)
-    assert seen["before"] == seen["after"] and seen["left"] == 0, "the page is as it was"
-    assert seen["charts"] == 1, "what paper hides of the chart hides its sheets too"
-    assert "table" in seen["names"], "a bar whose middle isn't shown has a name"
-    names = ["Thu 2026-12-03", "Sat 2026-12-05", "Sun 2026-12-06", "Mon 2026-12-07", "Tue 2026-12-08", "Wed 2026-12-09"]
-    assert [name for name, _, _ in seen["sheets"]] == names[:-(-made.makespan // 240)]
-    for day, (_, key, width) in enumerate(seen["sheets"]):
-        seen_jobs = [place for place in range(5) if any(start < 240 * (day + 1) and end > 240 * day for start, end in
-                                                        zip(made.starts[place], made.ends[place]))]
-        assert [int(item.split()[1]) - 1 for item in key] in (seen_jobs, []) and width == 2080
+PAGES["sheets"] = Page(plan([f"{name} {name * 20}" for name in NAMES]), LOOKED + """
+function state() {
+  return [from, to, calls, places.open && items(places), places.hidden, places.open, document.body.className,
+          sheets.children.length];
+}
+const seen = {}, own = draw;
+for (const size of ["A4", "A3"]) {
+  [paper.value, print.value, places.open] = [size, "days", size === "A3"];
+  press("0", "+");
+  places.dispatchEvent(new Event("toggle"));
+  const before = JSON.stringify(state()), pens = [];
+  point({clientX: 100, clientY: canvas.getBoundingClientRect().top + TOP + 5});
+  beginPrint();
+  draw = () => { own(); pens.push(calls); };
+  beginPrint();
+  draw = own;
+  const view = [from, to], all = [...sheets.children].map(({children: [head, copy, key]}, at) => {
+    [from, to] = [days[at][0], days[at + 1]?.[0] ?? end];
+    draw();
+    const isSame = copy.toDataURL() === canvas.toDataURL();
+    return [head.tagName, head.textContent, copy.id, isSame, key.className, items(key)];
+  });
+  [from, to] = view;
+  draw();
+  seen[size] = [view, pens, all, items(places), places.open, places.lastChild.style.columnWidth];
+  endPrint();
+  seen[size].push(JSON.stringify(state()) === before);
+}
+tell(seen);
+""", {"calendar": DATES})
 
 
-def test_the_lists_are_there_without_scripts(tmp_path: pathlib.Path) -> None:
-    """Names are escaped by `lists_of`, and nothing hides the lists but a script."""
-    shop = pfs.Instance([[60, 0], [120, 90]], job_names=["<b>", "c"], machine_names=["saw", "drill"], unit="min")
-    calendar = pfs.Calendar("2026-11-30T12:30", "06:00-14:00")
-    shop.schedule([1, 0]).plot(tmp_path / "chart.html", calendar=calendar, title="KW <48>")
-    text = (tmp_path / "chart.html").read_text("utf-8")
-    lists = text[text.index('<div id="lists">'):text.index('<script type="application/json"')]
-    assert lists.count("<table>") == lists.count("</tbody></table>") == 2 and "hidden" not in lists
-    assert [part for part in re.split(r"<[^>]*>|\n", lists) if part] == [
-        "Machine saw", "place", "job", "start", "end", "Mon 2026-11-30", "1", "c", "12:30", "Tue 2026-12-01 06:30",
-        "Tue 2026-12-01", "2", "&lt;b&gt;", "06:30", "07:30",
-        "Machine drill", "place", "job", "start", "end", "Tue 2026-12-01", "1", "c", "06:30", "08:00"]
-    assert '<div id="drawn" hidden>' in text and "<noscript>" in text and "<h1>KW &lt;48&gt;</h1>" in text
+@pytest.mark.parametrize("size", ["A4", "A3"])
+def test_a_sheet_for_each_day(pages: dict[str, Any], size: str) -> None:
+    """With its jobs. The page is as it was, also if it is printed twice; nothing is pointed at on paper."""
+    made, ((first, last), calls, *seen) = PAGES["sheets"].made, pages["sheets"][size]
+    ends = [*range(0, made.makespan, 240), made.makespan]
+    days = ["Thu 2026-12-03", "Sat 2026-12-05", "Sun 2026-12-06", "Mon 2026-12-07", "Tue 2026-12-08", "Wed 2026-12-09"]
+    shown = [Look(made, DATES, pixels=2, paper=size, first=start, last=end) for start, end in (
+        *itertools.pairwise(ends), (first, last))]
+    for look, each in zip(shown, calls, strict=True):
+        assert_drawn(each, look)
+    assert seen == [[["H2", day, "", True, "key", Layout(look).key()] for day, look in zip(days, shown)],
+                    Layout(shown[-1]).key(), True, "40em", True]
 
 
-@pytest.mark.parametrize(("unit", "decimals", "calendar"), [
-    ("h:mm", 0, None), ("h", 1, None), ("s", 2, pfs.Calendar("2026-11-27T12:00")),
-    ("min", 0, pfs.Calendar("2026-11-27T12:00", "06:00-14:00", "mon-fri")),
-    ("min", 2, pfs.Calendar("2026-11-27T12:00", ["06:00-14:00", "fri:22:00-02:00"], "mon-fri", "2026-11-30"))])
-def test_the_page_tells_the_times_of_the_csv(unit: str, decimals: int, calendar: pfs.Calendar | None, chromium: str,
-                                             tmp_path: pathlib.Path) -> None:
-    """With minutes below ten, decimals, operations that end with a shift, others that take no time, and later weeks."""
-    times = [[5, 0, 120], [480, 485, 475], [960, 1, 2400], [0, 2400, 9_999], [7, 7, 1]]
-    made = pfs.Instance(times, job_names=[*"abcde"], machine_names=[*"xyz"], unit=unit, decimals=decimals).schedule(
-        range(5))
-    script = "tell({spans: table.machines.map((_, machine) => table.jobs.map((_, place) => spanOf(machine, place)))})"
-    rows = [line.split(",") for line in str(made.to_csv(calendar=calendar)).splitlines()[1:]]
-    seen = seen_of(chromium, made, tmp_path, script, calendar=calendar)["spans"]
-    assert {(job, machine): seen["xyz".index(machine)]["abcde".index(job)] for job, machine, *_ in rows} \
-        == {(job, machine): times for job, machine, *times in rows}
+PAGES |= {f"{many} days": Page(pfs.Instance([[many]], unit="d").schedule([0]), """
+tell([[...print.options].map(option => [option.value, option.textContent]), choice.parentElement.hidden]);
+""", {"calendar": pfs.Calendar("2026-11-30")}, is_listed=many < 63) for many in (1, 2, 62, 63)}
 
 
-def test_sheets_have_their_days_and_their_paper_and_a_tip_stays_in_the_window(chromium: str,
-                                                                              tmp_path: pathlib.Path) -> None:
-    """A sheet has the stretch of its day, also the last one, and A3 is wider than A4 by the root of two."""
-    script = """
-    const seen = {}, own = draw;
-    draw = () => { own(); seen[paper.value].push([from, to, width]); };
-    for (const size of ["A4", "A3"]) {
-      seen[size] = [];
-      paper.value = size;
-      print.value = "days";
-      beginPrint();
-      endPrint();
-    }
-    draw = own;
-    send("pointermove", PointerEvent, width - RIGHT - 2, yOf(machines - 1) + ROW / 2, {pointerId: 1});
-    const {right} = tip.getBoundingClientRect();
-    tell({...seen, tip: tip.textContent, isInside: right <= window.innerWidth,
-          isOpen: places.open});
-    """
-    made = plan([f"{name} {name * 20}" for name in NAMES])
-    seen = seen_of(chromium, made, tmp_path, script, calendar=DATES)
-    days = range(-(-made.makespan // 240))
-    assert [each[:2] for each in seen["A4"]][:len(days)] \
-        == [[240 * day, min(240 * (day + 1), made.makespan)] for day in days]
-    assert 1.3 < seen["A3"][0][2] / seen["A4"][0][2] < 1.5
-    assert NAMES[int(made.order[-1])] * 20 in seen["tip"] and seen["isInside"] and not seen["isOpen"]
+def test_what_can_be_printed_and_listed(pages: dict[str, Any]) -> None:
+    for many in (1, 2, 62, 63):
+        options = [["", "what is shown"], *([["days", "a page a day"]] if 1 < many < 63 else [])]
+        assert pages[f"{many} days"] == [options, many == 63]
+
+
+# Style
+
+# The selector of each rule, and what it sets.
+STYLE = [(selector.strip(), re.findall(r"(?:^|;)\s*([-\w]+):", body)) for selector, body in re.findall(
+    r"([^{}]+)\{([^{}]*)\}", pathlib.Path(_chart.__file__).with_name("chart.html").read_text("utf-8").partition(
+        "<style>")[2].partition("</style>")[0])]
+STYLED = f"const STYLE = {json.dumps(STYLE)};" + """
+function all(selector, found) { return [...document.querySelectorAll(selector)].map(found); }
+function box({left, top, right, bottom}) { return [left, top, right, bottom]; }
+function textBox(one) {
+  const range = document.createRange();
+  range.selectNodeContents(one);
+  return [...box(range.getBoundingClientRect()), range.getClientRects().length];
+}
+function ground(one) {
+  const {backgroundColor} = getComputedStyle(one);
+  return backgroundColor === "rgba(0, 0, 0, 0)" ? ground(one.parentElement) : backgroundColor;
+}
+function look() {
+  return {
+    width: document.documentElement.clientWidth, idle: calls[3][5],
+    blocks: all("h1, #drawn > p, form, canvas, #places, table", one => box(one.getBoundingClientRect())),
+    sheets: all("section canvas", one => one.getBoundingClientRect().right), labels: all("label", textBox),
+    tables: all("table", made => [...made.rows].map(row => [...row.cells].map(
+      cell => [...textBox(cell), getComputedStyle(cell).textAlign === "right" ? 2 : 0]))),
+    columns: [places.lastChild.style.columnWidth, getComputedStyle(places.lastChild).columnGap],
+    sizes: ["p", "h1", "caption", "input", "#places li", "td"].map(each => {
+      const {fontSize, fontWeight, lineHeight} = getComputedStyle(document.querySelector(each));
+      return [fontSize, fontWeight, lineHeight].map(parseFloat);
+    }),
+    colours: all("h1, #drawn > p, label, input, select, #found, caption, th, td, #tip, summary, li",
+                 one => [getComputedStyle(one).color, ground(one)]),
+  };
+}
+field.value = "a";
+field.dispatchEvent(new Event("input"));
+choice.value = "all";
+choice.dispatchEvent(new Event("change"));
+places.open = true;
+places.dispatchEvent(new Event("toggle"));
+send("pointermove", PointerEvent, left + 5, TOP + 5);
+draw();
+const seen = {screen: look()};
+document.body.style.width = "160px";
+seen.lines = all("#lists :is(th, td)", cell => cell.textContent.includes(" ") || textBox(cell)[4]);
+document.body.style.width = "";
+const parts = [...document.styleSheets[0].cssRules], medias = parts.filter(({media}) => media);
+[paper.value, print.value] = ["A3", "days"];
+beginPrint();
+seen.rules = parts.flatMap(rule => rule.media ? [...rule.cssRules] : [rule]).map((rule, at) => [
+  STYLE[at]?.[1].filter(name => !rule.style.getPropertyValue(name)),
+  !(rule instanceof CSSStyleRule) || document.querySelector(rule.selectorText) !== null]);
+seen.medias = medias.map(({media}) => media.mediaText);
+for (const {media} of medias) media.mediaText = media.mediaText === "print" ? "all" : "not all";
+tell({...seen, paper: look()});
+"""
+PAGES |= {name: Page(plan(), STYLED, {"calendar": DATES}, width) for name, width in (("wide", 1000), ("narrow", 500))}
+
+
+def test_all_that_the_style_says_is_understood_and_is_for_something(pages: dict[str, Any]) -> None:
+    assert pages["wide"]["rules"] == [[[], True]] * len(STYLE) and len(STYLE) > 20
+    assert len(pages["wide"]["medias"]) == 3 and "not all" not in pages["wide"]["medias"]
+
+
+@pytest.mark.parametrize(("name", "margin", "column"), [("wide", 16, 17), ("narrow", 8, 5)])
+def test_blocks_and_columns_are_apart(pages: dict[str, Any], name: str, margin: int, column: int) -> None:
+    """In pixels. Blocks are as wide as the window but for its margins; numbers are under each other."""
+    seen, paper = pages[name]["screen"], pages[name]["paper"]
+    blocks, ((size, _, high), *others) = seen["blocks"], seen["sizes"]
+    left = blocks[0][0]
+    assert all(block[0] == left for block in blocks) and left == pytest.approx(margin, abs=2)
+    assert {round(seen["width"] - block[2] - left) for block in blocks[:5]} == {0}
+    gaps = [below[1] - above[3] for above, below in itertools.pairwise(blocks)]
+    assert 0 < gaps[0] < 8 and gaps[3] == 0 and all(8 < each < 16 for each in gaps[1:3] + gaps[4:]), gaps
+    assert 12 <= size <= 16 and 1.2 < high / size < 1.6, "letters and lines"
+    assert [(round(letters / size, 1), weight) for letters, weight, _ in others] == [
+        (pytest.approx(1.15, abs=0.1), 700), (1, 700), (1, 400), (0.8, 400), (1, 400)], "sizes"
+    assert all(16 < after[0] - before[2] < 30 for before, after in itertools.pairwise(seen["labels"])
+               if before[1] == after[1]) and seen["columns"] == ["19em", "16px"]
+    assert [rows[0][1][0] - left < 70 for rows in seen["tables"][-3:]] == [True] * 3, "places have a narrow column"
+    for rows in seen["tables"]:
+        whole = [row for row in rows if len(row) == len(rows[0])]
+        assert all(after[0] - before[2] > column for row in whole for before, after in itertools.pairwise(row)), rows
+        for cells in zip(*whole):
+            assert len({round(cell[cell[5]]) for cell in cells}) == 1, "cells of a column"
+    assert {*pages[name]["lines"]} == {True}, "a word is broken where a list is narrow"
+    assert paper["blocks"][0][0] == 0 and 0.8 < paper["sizes"][-1][0] / size < 0.9
+    assert {round(right) for right in paper["sheets"]} == {paper["width"]}, "the charts are as wide as the paper"
+
+
+DIM, FORCED = "--blink-settings=preferredColorScheme=0", "--enable-features=WebContentsForceDark"  # 0 is dark
+
+
+def test_all_can_be_read_on_a_dark_screen_too(chromium: str, tmp_path: pathlib.Path, pages: dict[str, Any]) -> None:
+    """Also where the browser would darken the pages that have no colours for it, which leaves charts alone."""
+    plan().plot(tmp_path / "chart.html", calendar=DATES)
+    dark = looked_at(chromium, scripted(tmp_path / "chart.html", PEN + STYLED), tmp_path, (DIM, FORCED))
+    for seen, (paper, *_, idle) in ((pages["wide"], LIGHT), (dark, DARK)):
+        colours = [["#" + "".join(f"{int(part):02x}" for part in re.findall(r"\d+", colour)[:3]) for colour in pair]
+                   for pair in seen["screen"]["colours"]]
+        assert min(contrast(*pair) for pair in colours) > 4.5 and seen["screen"]["idle"] == idle
+        assert max(contrast(ground, paper) for _, ground in colours) < 4

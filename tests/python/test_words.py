@@ -7,7 +7,7 @@ import pfs
 import pytest
 from pfs import _words
 from pfs._chart import PAGE_WORDS
-from support.browser import PEN, looked_at
+from support.browser import PEN, looked_at, scripted
 from support.commands import ended
 
 openpyxl = pytest.importorskip("openpyxl")
@@ -90,14 +90,14 @@ def test_charts_in_german(folder: pathlib.Path) -> None:
 
 def test_a_german_page(chromium: str, folder: pathlib.Path) -> None:
     assert ended(["plan", "times.csv", *DATES, "--language", "de", "--chart", "plan.html"], folder)[0] == 0
-    seen = looked_at(chromium, folder / "plan.html", folder, PEN + """
+    seen = looked_at(chromium, scripted(folder / "plan.html", PEN + """
 const box = canvas.getBoundingClientRect();
 point({clientX: box.left + left + 5, clientY: box.top + TOP + 5});
 field.value = "a"; field.dispatchEvent(new Event("input"));
 tell({tip: tip.textContent, found: byId("found").textContent,
         list: document.querySelector("#jobs caption").textContent, head: document.querySelector("#jobs th").textContent,
         days: [...print.options].map(option => option.textContent), weekdays: WEEKDAYS[0]});
-""")
+"""), folder)
     assert seen["tip"].split("\n")[0].startswith("Auftrag ") and seen["tip"].split("\n")[3].startswith("Ende 2026-")
     assert (seen["found"], seen["head"], seen["weekdays"]) == ("2 Aufträge gefunden", "Maschine", "So")
     assert seen["list"].startswith("Auftrag ") and "eine Seite je Tag" in seen["days"]
