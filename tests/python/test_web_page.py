@@ -1,9 +1,12 @@
 """The page for planners in a browser: a week of a planner, by a pointer and by the keyboard alone."""
+import base64
+import difflib
 import io
 import json
 import os
 import pathlib
 import re
+import textwrap
 from collections.abc import Callable, Iterator
 from typing import Any
 
@@ -28,6 +31,12 @@ SCRIPT = "<img src=x onerror=\"document.title='run'\">"
 MONDAY = [["Plan KW 49"], ["Auftrag", "Menge", "S\u00e4ge [min]", "Bohren [min]", "Lack [min]"],
           ["A-1", 4, 30, 25, 40], ["A-2", 1, 20, "n/a", 15], ["A-3", 2, 40, 10, None], ["A-4", 3, "1.500", 10, 60],
           [SCRIPT, 1, 25, 35, 20], ["A-6", 2, 15, 45, 30], ["Summe", None, 140, 125, 165]]
+
+
+WEEK: list[list[Any]] = [
+    ["Plan", "Stand 27.11."], ["Auftrag", "Menge", "S\u00e4ge [h]", "Bohren [h]", "Lack [h]"], ["Tisch", 4, 3, 2.5, 4],
+    ["Stuhl", 1, 2, "n/a", 1.5], ["Regal", 2, 4, 1], ["Kiste", 3, 1, "1.500", 6], ["Summe", None, 10, 5, 11.5]]
+LADEN = "Auftrag;S\u00e4ge;Bohren\nT\u00fcr;1,25;2\nTor;3;1,5\n"
 
 
 class Page:
@@ -119,6 +128,153 @@ def page(tmp_path_factory: pytest.TempPathFactory) -> Iterator[Page]:
             browser.quit()
 
 
+# Notes what the page asks, and says what is seen of it. The test answers for a search.
+WATCH = r"""{
+Object.assign(window, {noted: [], busy: 0, late: null, fails: null, teller: null});
+const ownFetch = window.fetch, ownRead = FileReader.prototype.readAsDataURL;
+window.fetch = async (path, given = {}) => {
+  const name = path.replace("/api/", "");
+  noted.push([given.method, name, given.body ? JSON.parse(given.body) : {}]);
+  const failure = fails, wait = late;
+  fails = null;
+  if (failure && !failure[0]) throw new TypeError();
+  if (failure) return new Response(failure[2], {status: failure[0], headers: {"Content-Type": failure[1]}});
+  if (name === "search") return Response.json({search: "S"});
+  if (name === "search/S") return Response.json(given.method === "GET" && await new Promise(done => { teller = done; }));
+  late = null;
+  busy += !wait;
+  const answer = await ownFetch(path, given), content = await answer.arrayBuffer();
+  await wait;
+  busy -= !wait;
+  return new Response(content, answer);
+};
+FileReader.prototype.readAsDataURL = function (file) {
+  busy += 1;
+  this.addEventListener("loadend", () => { busy -= 1; });
+  ownRead.call(this, file);
+};
+HTMLAnchorElement.prototype.click = function () { noted.push(["save", this.download, {}]); };
+// Waits until nothing is under way but a search that asks again.
+window.idle = async () => {
+  for (let calm = 0; calm < 3; calm = busy || running && !teller ? 0 : calm + 1)
+    await new Promise(done => setTimeout(done, 10));
+};
+const SIGNS = ["wrong", "off", "held", "best", "moved", "over"], BLOCKS = "p, li, h1, h2, h3, tr, summary, label, div";
+const WORDS = ["type", "rows", "min", "max", "maxlength", "accept", "placeholder", "sandbox"];
+const wordsOf = (each, ...more) => [...more, ...WORDS].map(name => each.getAttribute(name))
+  .filter(word => word && word !== "text").join(" ");
+function controlOf(each) {
+  const words = each.dataset.key ? "" : wordsOf(each, "aria-label", "title");
+  const value = each.options ? [...each.options].map(one => one.text + (one.selected ? "*" : "")).join("/") : each.value;
+  const text = each.type === "checkbox" ? (each.checked ? "[x]" : "[ ]") : each.matches("button")
+    ? `[${each.textContent}]` : `<${words && `${words}: `}${value ?? ""}>`;
+  const focus = each !== document.activeElement ? "" : each.type === "text" && each.selectionStart < each.selectionEnd
+    ? `!${each.selectionStart}-${each.selectionEnd}` : "!";
+  return each.matches("button[data-key]") && !focus ? "" : `${text}${each.disabled ? "(off)" : ""}${focus} `;
+}
+// What is seen, line by line. Buttons of lists are seen where they have the focus.
+window.seen = () => {
+  const lines = [`${document.title} ${location.pathname}${location.hash}`];
+  let line = "";
+  const end = () => { lines.push(line.replace(/\s+/g, " ").replace(/ ?\| ?/g, "|").trim()); line = ""; };
+  const walk = node => {
+    if (node.nodeType === Node.TEXT_NODE) line += node.data;
+    if (!node.checkVisibility?.()) return;
+    if (node.matches(BLOCKS)) end();
+    if (node.matches("td + *, th + *")) line += "|";
+    line += SIGNS.filter(sign => node.classList.contains(sign)).map(sign => `{${sign}}`).join("");
+    if (node.role && node.textContent) line += `${node.role}: `;
+    if (node.matches("input, select, button, textarea, progress, iframe")) line += controlOf(node);
+    else node.childNodes.forEach(walk);
+    if (node.matches(BLOCKS)) end();
+  };
+  walk(document.body);
+  end();
+  return lines.filter(Boolean);
+};
+// What is said of a row's controls and texts.
+window.said = key => [...document.querySelector(`[data-key="${key}"]`).closest("tr").querySelectorAll("[title]")]
+  .map(each => [...new Set([each.ariaLabel, each.title])].concat(wordsOf(each), each.matches("button") && each.textContent,
+                each.ariaInvalid === "true" && "invalid").filter(Boolean).join(" | "));
+}"""
+
+
+def flat(value: Any, name: str = "") -> dict[str, Any]:
+    """The values of a request by their names, and the rows of a table by their lines."""
+    inner = value.items() if isinstance(value, dict) else value if name == "rows" else ()
+    return {path: found for key, each in inner for path, found in flat(each, str(key)).items()} or {name: value}
+
+
+class Play:
+    """Does the steps of a script, and writes it again with what the page asks (>) and what is seen then: how many lines
+    less (-), and the new ones (+); or what a question shows (=). After a step that begins with ~ nothing is looked at."""
+
+    def __init__(self, page: Page, files: dict[str, bytes]) -> None:
+        run, place = page.browser.execute_script, "document.querySelector(arguments[0])"
+        self.page, self.files, self.run, self.seen, self.before = page, files, run, list[str](), dict[str, Any]()
+        self.verbs: dict[str, Callable[..., Any]] = {
+            "open": lambda: page.open("de"), "reload": page.browser.refresh, "click": page.click, "press": page.press,
+            "twice": lambda selector: run(f"const one = {place}; one.click(); one.click()", selector),
+            "set": lambda *given: run(f"const one = {place}; one.value = arguments[1]; "
+                                      "one.dispatchEvent(new Event('change', {bubbles: true}))", *given),
+            "fill": lambda: run("document.querySelectorAll('[placeholder]').forEach(each => { each.value = "
+                                "each.placeholder; })"),
+            "write": lambda key, text: page.write(page.key(key), text),
+            "type": lambda key, text: page.key(key).send_keys(Keys.CONTROL, "a", Keys.NULL, text),
+            "drop": lambda name: page.drop(name, files[name]),
+            "paste": lambda text: page.paste(text.replace("|", "\n")),
+            "drag": self.drag,
+            "tell": lambda told: run("const own = teller; teller = null; own(JSON.parse(arguments[0]))", told),
+            "late": lambda: run("late = new Promise(done => { window.come = done; })"),
+            "come": lambda: run("come()"),
+            "fail": lambda text: run("fails = arguments[0]", [int(text.split()[0]), *text.split(" ", 2)[1:]]),
+            "do": run, "row": lambda key: run("return said(arguments[0])", key),
+            "headings": lambda: [each.text for each in page.all("h1, h2") if each.is_displayed()]}
+
+    def drag(self, *names: str) -> None:
+        one, other = (each for name in names for each in self.page.all("#order .name") if each.text == name)
+        self.run("arguments[0].scrollIntoView({block: 'center'})", one)
+        webdriver.ActionChains(self.page.browser).drag_and_drop(one, other).perform()
+
+    def asked(self) -> Iterator[str]:
+        """What the page has asked since the last step, each as its difference from the request before."""
+        for method, name, body in self.run("return noted.splice(0)"):
+            kind, now = ("shop" if "shop" in body else name), flat(body)
+            before = self.before.get(kind, {})
+            if "content" in now:
+                data = base64.b64decode(now["content"])
+                now["content"] = next((name for name, each in self.files.items() if each == data), "pasted")
+            changed = {path: value for path, value in now.items() if before.get(path, ...) != value}
+            texts = [f"{path}={json.dumps(value, ensure_ascii=False, separators=(',', ':'))}"
+                     for path, value in sorted(changed.items()) if body]
+            if body:
+                texts += [f"-{path}" for path in before if path not in now]
+                self.before[kind] = now
+            yield " ".join([f"> {method} {name}", *texts])
+
+    def step(self, line: str) -> Iterator[str]:
+        yield line
+        verb, _, words = line.removeprefix("~").partition(" ")
+        given = re.split(" = ?", words, maxsplit=1) if verb in ("set", "write", "type", "drag") else [words] * bool(words)
+        found = self.verbs[verb](*given)
+        self.page.browser.execute_async_script("idle().then(arguments[0])")
+        yield from self.asked()
+        if isinstance(found, list):
+            yield f"= {' / '.join(filter(None, found))}"
+        elif not line.startswith("~"):
+            before, self.seen = self.seen, self.run("return seen()")
+            edits = difflib.SequenceMatcher(None, before, self.seen, autojunk=False).get_opcodes()
+            gone = sum(end - begin for kind, begin, end, _, _ in edits if kind != "equal")
+            come = [each for kind, _, _, begin, end in edits if kind != "equal" for each in self.seen[begin:end]]
+            if gone or come:
+                yield f"-{gone} " * (gone > 0) + f"+ {' / '.join(come)}" * (come != [])
+
+    def play(self, script: str) -> str:
+        steps = [line for line in script.replace("\n    ", " ").splitlines() if line[0] not in ">+-="]
+        return "".join(f"{row.rstrip()}\n" for step in steps for line in self.step(step) for row in textwrap.wrap(
+            line, 119, subsequent_indent="    ", break_long_words=False, break_on_hyphens=False))
+
+
 def monday() -> bytes:
     import openpyxl
     book, out = openpyxl.Workbook(), io.BytesIO()
@@ -128,6 +284,28 @@ def monday() -> bytes:
     book.create_sheet("Stammdaten").append(["nichts"])
     book.save(out)
     return out.getvalue()
+
+
+def workbook() -> bytes:
+    import openpyxl
+    book, out = openpyxl.Workbook(), io.BytesIO()
+    book.active.title = "KW 49"
+    for row in WEEK:
+        book.active.append(row)
+    book.create_sheet("Lager").append(["nichts"])
+    book.save(out)
+    return out.getvalue()
+
+
+def test_each_step_in_german(page: Page) -> None:
+    """What the page asks and shows after each step is as a person wrote it."""
+    script = pathlib.Path(__file__).with_name("page_in_german.txt").read_text("utf-8")
+    watch = page.browser.execute_cdp_cmd("Page.addScriptToEvaluateOnNewDocument", {"source": WATCH})
+    try:
+        played = Play(page, {"woche.xlsx": workbook(), "laden.csv": LADEN.encode("cp1252")}).play(script)
+    finally:
+        page.browser.execute_cdp_cmd("Page.removeScriptToEvaluateOnNewDocument", watch)
+    assert played.splitlines() == script.splitlines()
 
 
 def planned(page: Page) -> None:

@@ -159,9 +159,14 @@ window.addEventListener("paste", event => {
 
 // 2 The search
 const calendar = ({begin, shifts, days, closed} = controls()) => ({begin, shifts, days, closed});
-const plan = more => ({shop: read.shop, order: doc.order, held: doc.held, least: doc.least, calendar: calendar(),
+// How many jobs are held, without those that the table lacks.
+function heldNow() {
+  const jobs = new Set(read.shop.jobs);
+  return (doc.order || []).slice(0, doc.held).filter(each => jobs.has(each)).length;
+}
+const plan = more => ({shop: read.shop, order: doc.order, held: heldNow(), least: doc.least, calendar: calendar(),
                        language, kept: doc.plans.map(each => each.order),
-                       title: byId("title").value || doc.name.slice(0, 200), ...more});
+                       title: byId("title").value || doc.name, ...more});
 byId("plan").onclick = doing(async () => {
   const {shop} = read;
   byId("plan").disabled = true;
@@ -172,7 +177,7 @@ byId("plan").onclick = doing(async () => {
       told = await ask(`/api/search/${running.search}`);
       if (!running) return;
       running.isWaiting = told.place > 0;
-      byId("bar").value = told.seconds / (told.limit || 1);
+      byId("bar").value = told.seconds / told.limit;
       byId("progress").textContent = running.isWaiting ? tr("waits for a processor, place {place}", told) :
         tr("{makespan} so far, no order is below {bound}; {left} s left", {...told,
           left: Math.max(0, Math.ceil(told.limit - told.seconds))});
@@ -206,8 +211,7 @@ async function evaluate() {
   if (!doc.order || !read.shop) return;
   const turn = ++asked, found = await ask("/api/plan", plan());
   if (turn !== asked) return;
-  [now, doc.order] = [found, found.jobs.map(([name]) => name)];
-  doc.held = Math.min(doc.held, doc.order.length);
+  [now, doc.held, doc.order] = [found, heldNow(), found.jobs.map(([name]) => name)];
   byId("three").hidden = false;
   const others = [[now.gone, tr("left out, as the table lacks them:")],
     [now.new, tr("new, and inserted where they are best:")]].filter(([names]) => names.length);
