@@ -6,7 +6,6 @@ import json
 import os
 import pathlib
 import re
-import textwrap
 from collections.abc import Callable, Iterator
 from typing import Any
 
@@ -206,8 +205,9 @@ def flat(value: Any, name: str = "") -> dict[str, Any]:
 
 
 class Play:
-    """Does the steps of a script, and writes it again with what the page asks (>) and what is seen then: how many lines
-    less (-), and the new ones (+); or what a question shows (=). After a step that begins with ~ nothing is looked at."""
+    """Does the steps of a script. After each it says what the page asks (>), as its difference from the request before,
+    and what is seen then: how many lines less (-), and the new ones (+); or what a question shows (=). After a step that
+    begins with ~ nothing is looked at."""
 
     def __init__(self, page: Page, files: dict[str, bytes]) -> None:
         run, place = page.browser.execute_script, "document.querySelector(arguments[0])"
@@ -253,7 +253,6 @@ class Play:
             yield " ".join([f"> {method} {name}", *texts])
 
     def step(self, line: str) -> Iterator[str]:
-        yield line
         verb, _, words = line.removeprefix("~").partition(" ")
         given = re.split(" = ?", words, maxsplit=1) if verb in ("set", "write", "type", "drag") else [words] * bool(words)
         found = self.verbs[verb](*given)
@@ -269,21 +268,10 @@ class Play:
             if gone or come:
                 yield f"-{gone} " * (gone > 0) + f"+ {' / '.join(come)}" * (come != [])
 
-    def play(self, script: str) -> str:
-        steps = [line for line in script.replace("\n    ", " ").splitlines() if line[0] not in ">+-="]
-        return "".join(f"{row.rstrip()}\n" for step in steps for line in self.step(step) for row in textwrap.wrap(
-            line, 119, subsequent_indent="    ", break_long_words=False, break_on_hyphens=False))
-
-
-def monday() -> bytes:
-    import openpyxl
-    book, out = openpyxl.Workbook(), io.BytesIO()
-    book.active.title = "KW 49"
-    for row in MONDAY:
-        book.active.append(row)
-    book.create_sheet("Stammdaten").append(["nichts"])
-    book.save(out)
-    return out.getvalue()
+    def play(self, script: str) -> None:
+        for block in re.split(r"\n(?=[a-z~])", script.strip().replace("\n    ", " ")):
+            step, *due = block.split("\n")
+            assert [*self.step(step)] == due, step
 
 
 def workbook() -> bytes:
@@ -302,10 +290,159 @@ def test_each_step_in_german(page: Page) -> None:
     script = pathlib.Path(__file__).with_name("page_in_german.txt").read_text("utf-8")
     watch = page.browser.execute_cdp_cmd("Page.addScriptToEvaluateOnNewDocument", {"source": WATCH})
     try:
-        played = Play(page, {"woche.xlsx": workbook(), "laden.csv": LADEN.encode("cp1252")}).play(script)
+        Play(page, {"woche.xlsx": workbook(), "laden.csv": LADEN.encode("cp1252")}).play(script)
     finally:
         page.browser.execute_cdp_cmd("Page.removeScriptToEvaluateOnNewDocument", watch)
-    assert played.splitlines() == script.splitlines()
+
+
+# Looks at a list of many rows as it is scrolled, and at what gets the focus there.
+LIST = r"""
+const done = arguments[0], faults = [], later = () => new Promise(next => requestAnimationFrame(() => setTimeout(next)));
+const check = (isTrue, ...what) => { if (!isTrue) faults.push(what.join(" ")); };
+(async () => {
+  const box = made("div", null, document.body, {className: "list"});
+  const list = listIn(box, at => {
+    const row = rowOf([`row ${at}`]);
+    control("input", `k${at}`, "", row.lastChild, {type: "text", value: "old"});
+    return row;
+  }, () => rowOf(["head"], null, "th"));
+  for (const count of [1, 40, 5000]) {
+    list.show(count);
+    check(Math.abs(box.scrollHeight - 32 * (count + 1)) < 3 && box.clientHeight <= 360, "height", count, box.scrollHeight);
+    check(box.firstChild.ariaRowCount === String(count), "rows", count);
+    for (const top of [0, 1, 383, 385, 416, 3001, 32 * count]) {
+      box.scrollTop = top;
+      await later();
+      const rows = [...box.querySelectorAll("tbody tr[aria-rowindex]")], places = rows.map(row => row.ariaRowIndex - 1);
+      const first = Math.floor(box.scrollTop / 32), last = Math.ceil((box.scrollTop + box.clientHeight) / 32) - 2;
+      check(places[0] === Math.max(0, first - 12) && places.length < 60 && places.at(-1) >= Math.min(count - 1, last + 11),
+            "drawn", count, top, places[0], places.at(-1));
+      check(rows.every((row, at) => row.offsetTop === 32 * (places[at] + 1) && row.offsetHeight === 32
+                                    && row.textContent === `row ${places[at]}`), "places", count, top);
+      for (const at of [first - 1, first, first + 1, last - 2, last, last + 1, 4000]) {
+        if (at < 0 || at >= count) continue;
+        box.scrollTop = top;
+        await later();
+        const before = box.scrollTop, field = list.reach(at, `k${at}`), own = field?.getBoundingClientRect();
+        const {top: high, bottom} = box.getBoundingClientRect();
+        check(field && field === document.activeElement && own.top >= high + 32 && own.bottom <= bottom, "reach", top, at);
+        check(at < first + 1 || at > last - 2 || box.scrollTop === before, "stays", top, at);
+      }
+    }
+  }
+  list.show(5000);
+  const field = list.reach(100, "k100"), row = field.closest("tr");
+  field.value = "new";
+  field.setSelectionRange(1, 2);
+  box.scrollTop += 5;
+  await later();
+  check(row.isConnected, "drawn again");
+  list.show(5000);
+  check(document.activeElement.value === "new" && document.activeElement.selectionStart === 1
+        && document.activeElement.selectionEnd === 2, "typed");
+  const top = box.scrollTop += 320;
+  await later();
+  check(box.scrollTop === top && document.activeElement.dataset.key === "k100", "jumps");
+  check(list.reach(7, "none") === null, "none");
+  list.show(0);
+  check(box.hidden, "hidden");
+  for (const [number, name] of [[1, "A"], [26, "Z"], [27, "AA"], [52, "AZ"], [53, "BA"], [702, "ZZ"], [703, "AAA"], [16384, "XFD"]])
+    check(letters(number) === name, name);
+  box.remove();
+})().then(() => done(faults), error => done([String(error)]));"""
+
+
+
+def test_a_list_of_many_rows(page: Page) -> None:
+    """Its rows are where they belong, and what gets the focus is seen."""
+    page.open()
+    assert page.browser.execute_async_script(LIST) == []
+
+
+# What a planner would complain of, on the page as it is.
+LOOK = r"""
+const faults = [], all = selector => [...document.querySelectorAll(selector)].filter(each => each.checkVisibility());
+const check = (isTrue, what, each) => {
+  if (!isTrue) faults.push(`${what}: ${each.tagName} ${each.id || each.dataset.key || each.textContent.slice(0, 30)}`);
+};
+const style = (each, name) => getComputedStyle(each)[name], box = each => each.getBoundingClientRect();
+const isDark = matchMedia("(prefers-color-scheme: dark)").matches, body = document.body;
+const over = (text, under) => {
+  const [red, green, blue, part = 1] = text.match(/[\d.]+/g).map(Number);
+  return [red, green, blue].map((each, at) => part * each + (1 - part) * under[at]);
+};
+const ground = each => each ? over(style(each, "backgroundColor"), ground(each.parentElement)) : [0, 0, 0].fill(isDark ? 18 : 255);
+const light = colour => colour.map(each => each / 255).map(each => each < .04 ? each / 12.92 : ((each + .055) / 1.055) ** 2.4)
+  .reduce((sum, each, at) => sum + each * [.2126, .7152, .0722][at], .05);
+const inked = each => { const range = new Range(); range.selectNodeContents(each); return range.getBoundingClientRect(); };
+for (const each of all("body *")) {
+  const [dark, bright] = [light(over(style(each, "color"), ground(each))), light(ground(each))].sort((a, b) => a - b);
+  if (each.matches("input, textarea") || [...each.childNodes].some(node => node.nodeType === 3 && node.data.trim()))
+    check(bright > 4.5 * dark, "hard to read", each);
+  check(box(each).right <= innerWidth && box(each).left >= 0 || each.closest("table, .list"), "outside", each);
+}
+for (const each of all("input, select, button, textarea")) for (const name of ["fontFamily", "fontSize"])
+  check(style(each, name) === style(body, name), name, each);
+for (const row of all("header, section div:not(.list), #options")) {
+  const parts = [...row.children].filter(each => each.checkVisibility() && box(each).width);
+  parts.forEach((each, at) => {
+    const next = parts[at + 1], isBelow = next && box(next).top >= box(each).bottom;
+    check(!next || box(next)[isBelow ? "top" : "left"] - box(each)[isBelow ? "bottom" : "right"] >= 7, "too close", each);
+    check(!next || isBelow || Math.abs(box(each).top + box(each).bottom - box(next).top - box(next).bottom) < 20, "middle", each);
+  });
+}
+const lengths = {  // Of what is seen by these names: the least and the most.
+  "body": ["width", Math.min(innerWidth, 1230) - 20, 1230], ".list tr[aria-rowindex], .list thead tr": ["height", 32, 32],
+  ".list, #faults": ["height", 0, 362], "iframe": ["height", 400, 500], "section > *:not(table, h3)": ["width", .9 * (Math.min(innerWidth, 1230) - 30), 1230],
+  "#order table": ["width", .98 * (all("#order")[0]?.clientWidth ?? 0), 5000], "#table td:first-of-type input": ["width", 150, 200],
+  "#table td:not(:first-of-type) input": ["width", 90, 130], "[type=number]": ["width", 50, 80]};
+for (const [selector, [side, least, most]] of Object.entries(lengths))
+  for (const each of all(selector)) check(box(each)[side] >= least - 1 && box(each)[side] <= most + 1, `${side} ${box(each)[side]}`, each);
+const styles = {
+  "#plan, .best td": ["fontWeight", "600"], "#table .off input": ["opacity", "0.5"], ".list thead th": ["position", "sticky"],
+  ".number": ["textAlign", "right"], "td:not(.number), #faults button": ["textAlign", /left|start/], ".list td": ["textOverflow", "ellipsis"],
+  "#table [type=text]": ["borderTopStyle", "none"], ".wrong": ["outlineStyle", "solid"], "#drop": ["borderTopStyle", "dashed"],
+  "#message": ["whiteSpace", "pre-wrap"], "h2": ["borderBottomStyle", "solid"], "td, th": ["borderLeftStyle", "solid"]};
+for (const [selector, [name, due]] of Object.entries(styles))
+  for (const each of all(selector)) check(style(each, name).match(due), `${name} ${style(each, name)}`, each);
+for (const each of all(".held, .moved, .wrong")) check(ground(each).join() !== ground(body).join(), "not marked", each);
+for (const each of all(".list thead th")) check(over(style(each, "backgroundColor"), [9, 9, 9]).join() === over(style(each, "backgroundColor"), [0, 0, 0]).join(), "seen through", each);
+for (const each of all("#order .name")) check([...each.parentElement.cells].every(cell => box(cell).width <= box(each).width), "narrow", each);
+scrollTo(0, 300);
+for (const each of all("#message")) check(box(each).top === 0 && document.elementFromPoint(innerWidth / 2, 5) === each, "scrolled away", each);
+scrollTo(0, 0);
+check(Math.abs(box(body).left - (document.documentElement.clientWidth - box(body).right)) < 2, "not in the middle", body);
+return faults;"""
+
+
+
+@pytest.mark.parametrize(("wide", "colours"), [(1600, "light"), (1200, "dark"), (390, "light")])
+def test_nothing_is_hard_to_read(wide: int, colours: str, page: Page) -> None:
+    """On a large screen, in dark colours, and on a phone: before there is a table, with faults, and with a plan."""
+    send, run = page.browser.execute_cdp_cmd, page.browser.execute_script
+    send("Emulation.setDeviceMetricsOverride", {"width": wide, "height": 500, "deviceScaleFactor": 1, "mobile": wide < 400})
+    send("Emulation.setEmulatedMedia", {"features": [{"name": "prefers-color-scheme", "value": colours}]})
+    try:
+        page.open("de")
+        assert run(LOOK) == []
+        page.drop("woche.xlsx", workbook())
+        page.wait(lambda: page.one("#suggest").is_displayed())
+        page.click("#suggest")
+        page.wait(lambda: page.all(".off"))
+        run("say('one\\ntwo')")
+        assert run(LOOK) == []
+        page.paste(TABLE)
+        page.wait(lambda: "12 Auf" in page.text("#read"))
+        for step in ("doc.order = [...read.shop.jobs]; evaluate()", "byId('keep').click()", "move(5, 0, 'J6:up')"):
+            run(step)
+            page.wait(lambda: page.all("#plans .best") if "keep" in step else page.order(), step)
+        page.wait(lambda: page.order()[0] == "J6" and page.all(".moved"))
+        page.press("J2:hold")
+        assert run(LOOK) == []
+        page.shot(f"plan-{wide}")
+    finally:
+        send("Emulation.clearDeviceMetricsOverride", {})
+        send("Emulation.setEmulatedMedia", {"features": []})
 
 
 def planned(page: Page) -> None:
