@@ -266,7 +266,7 @@ class Play:
             gone = sum(end - begin for kind, begin, end, _, _ in edits if kind != "equal")
             come = [each for kind, _, _, begin, end in edits if kind != "equal" for each in self.seen[begin:end]]
             if gone or come:
-                yield f"-{gone} " * (gone > 0) + f"+ {' / '.join(come)}" * (come != [])
+                yield " ".join([f"-{gone}"] * (gone > 0) + [f"+ {' / '.join(come)}"] * (come != []))
 
     def play(self, script: str) -> None:
         for block in re.split(r"\n(?=[a-z~])", script.strip().replace("\n    ", " ")):
