@@ -11,7 +11,7 @@ from typing import Any
 
 import pytest
 from support.needs import require_module, tool
-from support.tools import TOP, wait_until
+from support.tools import wait_until
 from test_web_server import LONG, SHOP, Server, served
 
 for module in ("flask", "waitress", "selenium", "openpyxl"):
@@ -23,19 +23,23 @@ from selenium.webdriver.common.keys import Keys
 from selenium.webdriver.remote.webelement import WebElement
 from selenium.webdriver.support.ui import Select
 
-WEB = TOP / "python" / "src" / "pfs" / "web" / "static"
 pytestmark = [pytest.mark.seconds(40), pytest.mark.xdist_group("page")]
 SCRIPT = "<img src=x onerror=\"document.title='run'\">"
-# Times that no order of a second makes optimal, and faults as planners make them.
-MONDAY = [["Plan KW 49"], ["Auftrag", "Menge", "S\u00e4ge [min]", "Bohren [min]", "Lack [min]"],
-          ["A-1", 4, 30, 25, 40], ["A-2", 1, 20, "n/a", 15], ["A-3", 2, 40, 10, None], ["A-4", 3, "1.500", 10, 60],
-          [SCRIPT, 1, 25, 35, 20], ["A-6", 2, 15, 45, 30], ["Summe", None, 140, 125, 165]]
-
-
+# Faults as planners make them, and letters that aren't in UTF-8.
 WEEK: list[list[Any]] = [
     ["Plan", "Stand 27.11."], ["Auftrag", "Menge", "S\u00e4ge [h]", "Bohren [h]", "Lack [h]"], ["Tisch", 4, 3, 2.5, 4],
     ["Stuhl", 1, 2, "n/a", 1.5], ["Regal", 2, 4, 1], ["Kiste", 3, 1, "1.500", 6], ["Summe", None, 10, 5, 11.5]]
 LADEN = "Auftrag;S\u00e4ge;Bohren\nT\u00fcr;1,25;2\nTor;3;1,5\n"
+
+
+# Pastes a text; drags a file over the page or a row of it, or drops it.
+PASTE = """new ClipboardEvent("paste", {bubbles: true, clipboardData: Object.assign(new DataTransfer(), {
+  getData: kind => kind === "text/plain" ? arguments[1] : ""})}));"""
+DRAG = """const dataTransfer = new DataTransfer(), [kind, selector] = arguments;
+dataTransfer.items.add(new File(["job,saw\\nJ1,1\\nJ2,2\\n"], "dropped.csv"));
+const event = new DragEvent(kind, {dataTransfer, cancelable: true});
+if ((selector ? document.querySelector(selector) : window).dispatchEvent(event) && kind !== "dragleave")
+  throw new Error("the browser would open the file");"""
 
 
 class Page:
@@ -95,17 +99,14 @@ class Page:
         self.one("#file").send_keys(str(path))
 
     def paste(self, text: str) -> None:
-        self.browser.execute_script("""
-            const data = new DataTransfer();
-            data.setData("text/plain", arguments[0]);
-            window.dispatchEvent(new ClipboardEvent("paste", {clipboardData: data}));""", text)
+        self.browser.execute_script(f"window.dispatchEvent({PASTE}", "", text)
 
     def order(self) -> list[str]:
         return [each.text for each in self.all("#order td.name")]
 
     def logged(self) -> list[str]:
         """What the browser complains of: a script that the policy has forbidden, or one that failed."""
-        return [each["message"] for each in self.browser.get_log("browser") if "favicon" not in each["message"]]
+        return [each["message"] for each in self.browser.get_log("browser")]
 
 
 @pytest.fixture(scope="module")
@@ -205,7 +206,7 @@ def flat(value: Any, name: str = "") -> dict[str, Any]:
 
 
 class Play:
-    """Does the steps of a script. After each it says what the page asks (>), as its difference from the request before,
+    """Does the steps of a script. Each has after :: what the page asks (>), as its difference from the request before,
     and what is seen then: how many lines less (-), and the new ones (+); or what a question shows (=). After a step that
     begins with ~ nothing is looked at."""
 
@@ -225,6 +226,8 @@ class Play:
             "paste": lambda text: page.paste(text.replace("|", "\n")),
             "drag": self.drag,
             "tell": lambda told: run("const own = teller; teller = null; own(JSON.parse(arguments[0]))", told),
+            "into": lambda key: run(f"{place}.dispatchEvent({PASTE}", f"[data-key='{key}']", "a;b"),
+            "over": lambda kind, selector="": run(DRAG, kind, selector),
             "late": lambda: run("late = new Promise(done => { window.come = done; })"),
             "come": lambda: run("come()"),
             "fail": lambda text: run("fails = arguments[0]", [int(text.split()[0]), *text.split(" ", 2)[1:]]),
@@ -250,11 +253,12 @@ class Play:
             if body:
                 texts += [f"-{path}" for path in before if path not in now]
                 self.before[kind] = now
-            yield " ".join([f"> {method} {name}", *texts])
+            if method != "GET":
+                yield " ".join([f"> {method} {name}", *texts])
 
     def step(self, line: str) -> Iterator[str]:
         verb, _, words = line.removeprefix("~").partition(" ")
-        given = re.split(" = ?", words, maxsplit=1) if verb in ("set", "write", "type", "drag") else [words] * bool(words)
+        given = [words] * bool(words) if verb in ("do", "tell") else re.split(" = ?", words, maxsplit=1)[:bool(words) * 2]
         found = self.verbs[verb](*given)
         self.page.browser.execute_async_script("idle().then(arguments[0])")
         yield from self.asked()
@@ -269,9 +273,9 @@ class Play:
                 yield " ".join([f"-{gone}"] * (gone > 0) + [f"+ {' / '.join(come)}"] * (come != []))
 
     def play(self, script: str) -> None:
-        for block in re.split(r"\n(?=[a-z~])", script.strip().replace("\n    ", " ")):
-            step, *due = block.split("\n")
-            assert [*self.step(step)] == due, step
+        for line in script.replace("\n    ", " ").splitlines():
+            step, _, due = line.partition(" :: ")
+            assert " ".join(self.step(step)) == due, step
 
 
 def workbook() -> bytes:
@@ -293,6 +297,7 @@ def test_each_step_in_german(page: Page) -> None:
         Play(page, {"woche.xlsx": workbook(), "laden.csv": LADEN.encode("cp1252")}).play(script)
     finally:
         page.browser.execute_cdp_cmd("Page.removeScriptToEvaluateOnNewDocument", watch)
+    assert [" 422 " in each for each in page.logged()] == [True] * 3, "the plans without a beginning"
 
 
 # Looks at a list of many rows as it is scrolled, and at what gets the focus there.
@@ -445,84 +450,28 @@ def test_nothing_is_hard_to_read(wide: int, colours: str, page: Page) -> None:
         send("Emulation.setEmulatedMedia", {"features": []})
 
 
-def planned(page: Page) -> None:
-    page.click("#plan")
-    page.wait(lambda: page.one("#plan").is_enabled() and page.text("#ends"), "the search is done")
-
-
-def test_a_week(page: Page) -> None:
+def test_a_plan_is_searched_drawn_and_downloaded(page: Page) -> None:
+    """By the server. No name runs as a script."""
     page.open()
-    # Before there is a table, nothing can be done with it.
-    shown = [each for each in page.all("input, select, button, textarea") if each.is_displayed()]
-    assert [each.get_attribute("id") for each in shown] == ["language", "file"]
-    page.drop("week.xlsx", monday())
-    # Monday: the faults are at their cells. One button chooses the machines; cells are mended, and a row left out.
-    page.wait(lambda: page.one("#suggest").is_displayed())
-    assert "S\u00e4ge" in page.text("#suggest") and "Menge" not in page.text("#suggest")
-    page.shot("faults")
-    page.click("#suggest")
-    page.wait(lambda: len(page.all("#faults li")) == 4)
-    page.write(page.key("6,3"), "10")
-    page.wait(lambda: len(page.all("#faults li")) == 3)
-    page.all("#faults button")[0].click()
-    assert page.browser.switch_to.active_element.get_attribute("data-key") == "4,4"
-    page.write(page.key("4,4"), "10")
-    page.wait(lambda: len(page.all("#faults li")) == 2)
-    page.write(page.key("5,5"), "0")
-    page.wait(lambda: len(page.all("#faults li")) == 1)
-    page.press("9,out")
-    page.wait(lambda: "6 jobs, 3 machines" in page.text("#read"))
-    # The plan, with dates.
-    page.click("#dates summary")
+    jobs = [SCRIPT, *SHOP["jobs"][1:]]
+    rows = [["job [min]", *SHOP["machines"]], *([job, *map(str, times)] for job, times in zip(jobs, SHOP["times"]))]
+    page.paste("".join(";".join(row) + "\n" for row in rows))
+    page.wait(lambda: "30 jobs" in page.text("#read"))
+    Select(page.one("#seconds")).select_by_value("600")
     page.browser.execute_script("arguments[0].value = '2026-11-30T06:00'", page.one("#begin"))
-    page.write(page.one("#shifts"), "06:00-08:00")
-    Select(page.one("#seconds")).select_by_value("2")
-    planned(page)
-    assert re.search(r"^\d+ min, finished 2026-1\d-\d\d \d\d:\d\d; (optimal: no order|at most \d)", page.text("#ends"))
-    first = page.order()
-    assert len(first) == 6 and SCRIPT in first and page.browser.title == "Plan a flow shop"
+    for held in (0, 1):
+        page.click("#plan")
+        page.wait(lambda: re.search(r"so far, no order is below .+; 5\d\d s left$", page.text("#progress")))
+        page.click("#end")
+        page.wait(lambda: page.one("#plan").is_enabled() and len(page.order()) > 10)
+        assert sorted(page.browser.execute_script("return doc.order")) == sorted(jobs)
+        if not held:
+            first = page.order()[4]
+            page.press(f"{first}:first")
+        page.wait(lambda: page.order()[0] == first and len(page.all("#order tr.held")) == 1)
     page.browser.switch_to.frame(page.one("#chart"))
     assert page.one("canvas").size["width"] > 300, "the chart has its script and its style"
     page.browser.switch_to.default_content()
-    assert not page.one("#compared").is_displayed() and page.text("#machines tr.best td")
-    page.shot("plan")
-    # Tuesday: the plan is kept, and a job moved, by a button, by a place, and to the front.
-    page.click("#keep")
-    last = first[-1]
-    page.press(f"{last}:up")
-    page.wait(lambda: page.order() == [*first[:4], last, first[4]])
-    assert page.browser.switch_to.active_element.get_attribute("data-key") == f"{last}:up"
-    page.write(page.key(f"{last}:place"), "1")
-    page.wait(lambda: page.order() == [last, *first[:5]])
-    assert "moved" in page.one("#moves tbody tr:nth-child(2) td:last-child").get_attribute("class")
-    assert page.text("#plans tr:nth-child(2) td:nth-child(4)") == "1"
-    webdriver.ActionChains(page.browser).drag_and_drop(*page.all("#order td.name")[1:3]).perform()
-    page.wait(lambda: page.order() == [last, first[1], first[0], *first[2:5]])
-    page.click("#keep")
-    page.wait(lambda: len(page.all("#plans tr")) == 3)
-    spans, best = ([int(each.text.split()[0]) for each in page.all(f"#plans {rows} td:nth-child(2)")]
-                   for rows in ("tr", "tr.best"))
-    assert {*best} == {min(spans)} < {*spans}
-    page.press(f"{first[2]}:first")
-    page.wait(lambda: page.order()[0] == first[2] and page.all("#order tr.held"))
-    planned(page)
-    assert page.order()[0] == first[2], "what is held stays"
-    # A reload keeps all of it.
-    before = page.order(), page.text("#ends"), page.one("#shifts").get_attribute("value")
-    page.browser.refresh()
-    page.wait(lambda: (page.order(), page.text("#ends"), page.one("#shifts").get_attribute("value")) == before)
-    assert page.text("#plans tr.best td") == "Plan 1" and now_begins(page) == "2026-11-30 06:00"
-    assert page.one("#now").get_attribute("value") == "2026-11-30T06:00", "the rest is planned from the beginning on"
-    # From now on, with a machine that is down.
-    page.browser.execute_script("arguments[0].value = '2026-11-30T07:00'", page.one("#now"))
-    page.browser.execute_script("arguments[0].value = '2026-11-30T07:45'", page.all("#machines input")[1])
-    page.click("#rest")
-    page.wait(lambda: "finished" in page.text("#ends") and "left out" in page.text("#ends")
-              or "nothing is finished" in page.text("#ends"))
-    assert page.all("#order tr.held") and page.one("#begin").get_attribute("value").startswith("2026-11-30T07:00")
-    assert now_begins(page) >= "2026-11-30 07:00"
-    page.shot("rest")
-    # Downloads.
     page.write(page.one("#title"), "../S\u00e4ge 49")
     for kind, start in (("csv", b"\xef\xbb\xbfjob;machine"), ("xlsx", b"PK"), ("zip", b"PK"), ("html", b"<!DOCTYPE"),
                         ("pdf", b"%PDF"), ("txt", b"")):
@@ -531,7 +480,7 @@ def test_a_week(page: Page) -> None:
         page.wait(lambda: path.exists() and path.stat().st_size, f"{path} in {[*page.downloads.iterdir()]}")
         assert path.read_bytes().startswith(start)
     assert "../S\u00e4ge 49" in (page.downloads / "---S\u00e4ge 49.html").read_text("utf-8"), "a file has its title"
-    assert (page.downloads / "---S\u00e4ge 49.txt").read_text().splitlines() == page.order()
+    assert path.read_text().splitlines() == page.browser.execute_script("return doc.order")
     assert page.logged() == [] and page.browser.title == "Plan a flow shop", "no script of a name has run"
 
 
@@ -573,193 +522,6 @@ def test_by_the_keyboard_alone(page: Page) -> None:
     assert page.logged() == []
 
 
-def test_a_search_is_ended_and_what_goes_wrong_is_shown(page: Page) -> None:
-    """A search of many jobs by Enough; a table without jobs; and another token."""
-    page.open()
-    rows = [["job", *SHOP["machines"]], *([job, *map(str, times)] for job, times in zip(SHOP["jobs"], SHOP["times"]))]
-    page.paste("".join(";".join(row) + "\n" for row in rows))
-    page.wait(lambda: "30 jobs" in page.text("#read"))
-    Select(page.one("#seconds")).select_by_value("600")
-    page.click("#plan")
-    page.wait(lambda: re.search(r"so far, no order is below .+; 5\d\d s left$", page.text("#progress")))
-    page.shot("progress")
-    page.click("#end")
-    page.wait(lambda: len(page.all("#order td.name")) > 10 and page.one("#plan").is_enabled())
-    page.paste("job" + "".join(f";M{at}" for at in range(2, 54)) + "\nJ" + ";1:3" * 52 + "\n")
-    page.wait(lambda: len(page.all("#faults button")) == 52 and not page.one("#message").is_displayed()
-              and not page.one("#plan").is_displayed())
-    cells = [each.text.split(":")[0] for each in page.all("#faults button")]
-    assert [cells[0], *cells[24:26], *cells[-2:]] == ["B2", "Z2", "AA2", "AZ2", "BA2"]
-    page.paste("job;saw\n")
-    page.wait(lambda: len(page.all("#faults button")) == 1)
-    page.all("#faults button")[0].click()
-    assert page.browser.switch_to.active_element.get_attribute("data-key") == "1,1", "the first cell of the row"
-    page.browser.execute_script("sessionStorage.setItem('token', 'wrong'); location.reload()")
-    page.wait(lambda: "token" in page.text("#message"))
-    assert [("403" in each or "422" in each) for each in page.logged()].count(False) == 0
-
-
-# Notes what the page asks. With `late`, the next response on a plan waits for it.
-NOTE = """
-window.noted = [];
-window.late = null;
-const own = window.fetch;
-window.fetch = async (path, given = {}) => {
-  const waits = ["/api/plan", "/api/read"].includes(path) ? window.late : null;
-  if (waits) window.late = null;
-  noted.push([given.method || "GET", path, given.body ? JSON.parse(given.body) : null]);
-  const answer = await own(path, given);
-  await waits;
-  return answer;
-};"""
-
-
-def test_what_the_page_asks_and_keeps(page: Page) -> None:
-    """After each thing that a planner does, the next request has what is on the page, and nothing of before."""
-    run = page.browser.execute_script
-
-    def asked(path: str) -> Any:
-        return run("return (noted.filter(each => each[1] === arguments[0]).at(-1) || [])[2]", path)
-
-    def change(selector: str, value: str) -> None:
-        run("arguments[0].value = arguments[1]; arguments[0].dispatchEvent(new Event('change', {bubbles: true}))",
-            page.one(selector), value)
-
-    press = page.press
-    page.open()
-    run(NOTE)
-    # A file is dropped, another one chosen, and chosen again when it has changed. An option holds for the next request.
-    run(DRAG, "dragover")
-    assert page.one("#drop").get_attribute("class") == "over"
-    run(DRAG, "dragleave")
-    assert not page.all(".over")
-    run(DRAG, "drop")
-    page.wait(lambda: page.text("#read").startswith("dropped.csv: 2 jobs") and not page.all(".over"))
-    run("window.late = new Promise(done => { window.come = done; })")
-    run(DRAG, "drop")
-    page.drop("chosen.csv", b"job,saw\nJ1,1\n")
-    page.wait(lambda: page.text("#read").startswith("chosen.csv: 1 jobs"))
-    page.browser.execute_async_script("come(); setTimeout(arguments[0], 100)")
-    assert page.text("#read").startswith("chosen.csv: 1 jobs"), "a file that is read for long replaces a later one"
-    page.drop("chosen.csv", TABLE.encode())
-    page.wait(lambda: "12 jobs" in page.text("#read"))
-    for name, value, due in (("unit", "min", "min"), ("decimal", ",", ","), ("decimals", "0", 0)):
-        change(f"#{name}", value)
-        page.wait(lambda: asked("/api/read")["options"][name] == due and page.text("#read")
-                  == "chosen.csv: 12 jobs, 2 machines (saw, drill), times in min, decimals: 0")
-    assert len(page.all("#table thead input")) == 2, "each machine has a tick"
-    # The table: machines are chosen and renamed, and a row is added. A field takes what is pasted into it.
-    press("3,machine")
-    page.wait(lambda: "1 machines (saw)" in page.text("#read") and asked("/api/read")["options"]["machines"] == ["saw"])
-    page.write(page.key("1,2"), "band")
-    page.wait(lambda: "1 machines (band)" in page.text("#read"))
-    page.click("#all")
-    page.wait(lambda: "2 machines (band, drill)" in page.text("#read"))
-    page.click("#add")
-    page.wait(lambda: "13 jobs" in page.text("#read"))
-    assert [line for line, _ in asked("/api/read")["rows"]] == [*range(1, 15)]
-    count = run("return noted.length")
-    run("""const data = new DataTransfer();
-        data.setData("text/plain", "x;y");
-        arguments[0].dispatchEvent(new ClipboardEvent("paste", {clipboardData: data, bubbles: true}));""",
-        page.key("3,2"))
-    assert run("return noted.length") == count
-    # A table that comes late replaces no later one.
-    run("window.late = new Promise(done => { window.come = done; })")
-    page.write(page.key("3,2"), "2")
-    page.write(page.key("3,3"), "4")
-    page.wait(lambda: run("return read.shop.times[1].join()") == "2,4")
-    page.browser.execute_async_script("come(); setTimeout(arguments[0], 100)")
-    assert run("return read.shop.times[1].join()") == "2,4"
-    assert {each.text: each.get_attribute("value") for each in Select(page.one("#seconds")).options} == {
-        "2 seconds": "2", "10 seconds": "10", "a minute": "60", "10 minutes": "600"}
-    # Two searches have different seeds. A bound of one table says nothing of another one.
-    Select(page.one("#seconds")).select_by_value("2")
-    planned(page)
-    seed = asked("/api/search")["seed"]
-    planned(page)
-    assert asked("/api/search")["seed"] != seed and run("return doc.least") > 0
-    page.write(page.key("3,2"), "1")
-    page.wait(lambda: asked("/api/read")["rows"][2][1][1] == "1" and asked("/api/plan")["least"] == 0)
-    # Plans that are kept come back with their dates, and the right one is forgotten.
-    for title, begin in (("one", "2026-11-30T06:00"), ("two", "2026-12-07T06:00")):
-        change("#title", title)
-        change("#begin", begin)
-        page.wait(lambda: now_begins(page).startswith(begin[:10]) and asked("/api/plan")["title"] == title)
-        page.click("#keep")
-    page.wait(lambda: len(page.all("#plans tr")) == 3 and len(asked("/api/plan")["kept"]) == 2)
-    press(f"{page.order()[0]}:hold")
-    page.click("#plans tr:nth-child(2) button")
-    page.wait(lambda: now_begins(page).startswith("2026-11-30") and not page.all("#order tr.held"))
-    press("0,forget")
-    page.wait(lambda: len(page.all("#plans tr")) == 2)
-    assert page.text("#plans tr:nth-child(2) td") == "two"
-    # A job that is renamed keeps its place. Where a place is none of a job, the field shows the old one again.
-    before = [each.replace("J12", "K12") for each in run("return doc.order")]
-    page.write(page.key("13,1"), "K12")
-    page.wait(lambda: page.order() == before)
-    place = f"{before[4]}:place"
-    for text in ("0", "14", "1.5", "-"):
-        page.write(page.key(place), text)
-        page.wait(lambda: page.key(place).get_attribute("value") == "5")
-    assert page.order() == before
-    # The third job is held with those before it. A response that comes late replaces no later one.
-    for count in (3, 2, 3):
-        press(f"{page.order()[2]}:hold")
-        page.wait(lambda: len(page.all("#order tr.held")) == count)
-    grounds = [row.value_of_css_property("background-color") for row in page.all("#order tr")[2:5]]
-    assert grounds[0] == grounds[1] != grounds[2], "what is held is marked"
-    before = page.order()
-    run("window.late = new Promise(done => { window.come = done; })")
-    press(f"{before[4]}:up")
-    press(f"{before[9]}:down")
-    moved = [*before[:3], before[4], before[3], *before[5:9], before[10], before[9], *before[11:]]
-    page.wait(lambda: page.order() == moved)
-    run("come()")
-    press(f"{moved[0]}:hold")
-    page.wait(lambda: not page.all("#order tr.held") and page.order() == moved)
-    # A search ends with its tab, and while it waits. With a held job none is proved optimal before.
-    press(f"{moved[0]}:hold")
-    page.click("#plan")
-    page.wait(lambda: page.one("#end").is_displayed())
-    run("window.dispatchEvent(new Event('pagehide'))")
-    page.wait(lambda: run("return noted.some(([method, path]) => method === 'DELETE' && path.startsWith('/api/sea'))")
-              and not page.one("#end").is_displayed())
-    names = [page.server.answer("/api/search", LONG)["search"] for _ in range(2)]
-    page.click("#plan")
-    page.wait(lambda: "waits for a processor, place 1" in page.text("#progress"))
-    page.click("#end")
-    page.wait(lambda: page.one("#plan").is_enabled() and not page.one("#end").is_displayed())
-    assert page.text("#message") == ""
-    for name in names:
-        page.server.answer(f"/api/search/{name}", method="DELETE")
-    press("2,out")
-    page.click("#add")
-    page.wait(lambda: "; left out, as the table lacks them: J1; new, and inserted where they are best: new 15"
-              in page.text("#ends"))
-    # A new table has no title of another one. What is too large isn't kept, nor what was kept before.
-    change("#decimal", ",")
-    run("Storage.prototype.setItem = () => { throw new Error('full'); }")
-    page.paste(TABLE)
-    page.wait(lambda: "too large to survive" in page.text("#read"))
-    assert run("return [sessionStorage.getItem('document'), byId('title').value, byId('decimal').value]") == [
-        None, "", ""]
-    page.browser.refresh()
-    Select(page.one("#language")).select_by_value("de")
-    page.wait(lambda: page.text("h1") == "Flie\u00dffertigung planen" and page.text("#read") == "")
-
-
-# Drags a file over the page, or drops it.
-DRAG = """const dataTransfer = new DataTransfer();
-dataTransfer.items.add(new File(["job,saw\\nJ1,1\\nJ2,2\\n"], "dropped.csv"));
-window.dispatchEvent(new DragEvent(arguments[0], {dataTransfer, cancelable: true}));"""
-
-
-def now_begins(page: Page) -> str:
-    """When the first job of the plan that is shown begins."""
-    return str(page.browser.execute_script("return now.jobs[0][1]"))
-
-
 def test_the_page_has_the_language_of_the_browser(page: Page) -> None:
     """At first, also where that is of a country."""
     agent = page.browser.execute_script("return navigator.userAgent")
@@ -770,46 +532,8 @@ def test_the_page_has_the_language_of_the_browser(page: Page) -> None:
         page.browser.refresh()
         page.wait(lambda: (page.one("html").get_attribute("lang"), page.one("#language").get_property("value"))
                   == (due, due))
-
-
-def test_in_german_on_a_phone(page: Page) -> None:
-    """Nothing is wider than the screen, and no text is left in English."""
-    page.browser.set_window_size(390, 800)
-    page.browser.execute_cdp_cmd("Emulation.setDeviceMetricsOverride",
-                                 {"width": 390, "height": 800, "deviceScaleFactor": 2, "mobile": True})
-    try:
-        page.open("de")
-        for rows, count in (("A;2;3\nA;x;1\n;2;2\nB;;\nSumme;9;9", 5), ("A;;1.000\nB;1:3;2\nC;3;#DIV/0!", 4)):
-            page.paste(f"Auftrag;S\u00e4ge;Bohren\n{rows}\n")
-            page.wait(lambda: len(page.all("#faults li")) == count)
-            assert re.findall(r"\b(?:the|is|isn't|may|has|too)\b", page.text("#faults")) == []
-        page.paste(TABLE)
-        page.wait(lambda: "12 Auftr\u00e4ge" in page.text("#read"))
-        planned(page)
-        assert page.text("#machines th") == "Maschine"
-        assert page.browser.execute_script("return document.documentElement.scrollWidth") <= 390
-        assert page.all("#order button")[0].is_displayed() and "geht es nicht" in page.text("#ends") + "geht es nicht"
-        page.shot("phone")
-        page.browser.execute_script("document.getElementById('order').scrollIntoView()")
-        page.shot("phone-order")
-    finally:
-        page.browser.execute_cdp_cmd("Emulation.clearDeviceMetricsOverride", {})
-        page.browser.set_window_size(1200, 1400)
-
-
-def test_each_text_of_the_page_is_there_in_german() -> None:
-    german = (WEB / "german.js").read_text("utf-8")
-    known = set(re.findall(r'^ +"((?:[^"\\]|\\.)*)":|, "((?:[^"\\]|\\.)*)":', german, re.MULTILINE))
-    keys = {json.loads(f'"{one or other}"') for one, other in known}
-    script, html = (WEB / "page.js").read_text("utf-8"), (WEB / "page.html").read_text("utf-8")
-    used = {json.loads(f'"{text}"') for text in re.findall(r'\btr\("([^"]+)"', script)}
-    for listed in re.findall(r'\[((?:"[^"]*"(?:,\s*)?)+)\]\.map\(text => tr\(text\)\)', script):
-        used |= set(re.findall(r'"([^"]+)"', listed))
-    body = re.sub(r"<(script|title)\b.*?</\1>", "", html.partition("<body>")[2], flags=re.DOTALL)
-    shown = {" ".join(text.split()) for text in re.findall(r">([^<]+)", body)}
-    shown |= set(re.findall(r'(?:aria-label|title)="([^"]+)"', body))
-    same = {"", "English", "Deutsch", "min", "h", "s", "0", "1", "2", "3", "Excel", "CSV", "PDF"}
-    assert sorted((used | shown) - keys - same) == []
+    Select(page.one("#language")).select_by_value("de")
+    page.wait(lambda: page.text("h1") == "Flie\u00dffertigung planen")
 
 
 @pytest.mark.seconds(30)
@@ -825,15 +549,7 @@ def test_five_thousand_jobs(page: Page) -> None:
     page.browser.execute_script("byId('table').scrollTop = 0")
     page.wait(lambda: "5000 jobs" in page.text("#read"))
     Select(page.one("#seconds")).select_by_value("2")
-    planned(page)
+    page.click("#plan")
+    page.wait(lambda: page.one("#plan").is_enabled() and page.text("#ends"), "the search is done")
     assert len(page.all("#table tbody tr")) < 100 and len(page.all("#order tbody tr")) < 100
-    page.browser.execute_script("byId('table').scrollTop = 500")
-    assert page.browser.execute_script("const box = byId('table').getBoundingClientRect(); return document"
-                                       ".elementFromPoint(box.left + 9, box.top + 9).closest('thead') !== null")
-    page.browser.execute_script("const box = byId('order'); box.scrollIntoView(); box.scrollTop = 2000 * 32")
-    row = """const {left, top} = byId("order").getBoundingClientRect();
-        return document.elementFromPoint(left + 300, top + 40).closest("tr").ariaRowIndex"""
-    page.wait(lambda: page.browser.execute_script(row) in ("2001", "2002", "2003"), "the rows of this place are drawn")
-    page.browser.execute_script("const box = document.getElementById('order'); box.scrollTop = box.scrollHeight")
-    page.wait(lambda: any(each.get_attribute("value") == "5000" for each in page.all("#order input[type=number]")))
     assert page.logged() == []
