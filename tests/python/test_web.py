@@ -172,7 +172,7 @@ WRONG: dict[str, tuple[str, Any]] = {
     "null": ("/api/search", None), "no rows": ("/api/read", {}), "a row of one": ("/api/read", {"rows": [[1]]}),
     "a row twice": ("/api/read", {"rows": [[1, ["a"]], [1, ["b"]]]}), "line 0": ("/api/read", {"rows": [[0, ["a"]]]}),
     "a line beyond spreadsheets": ("/api/read", {"rows": [[2**20 + 1, ["a"]]]}),
-    "no base64": ("/api/read", {"content": "%%%"}),
+    "no base64": ("/api/read", {"content": "%%%"}), "half a letter": ("/api/read", {"rows": [[1, ["\ud800"]]]}),
     "another delimiter": ("/api/read", {"rows": [], "options": {"delimiter": "|"}}),
     "a place of three numbers": ("/api/read", {"rows": [], "options": {"texts": [[1, 1, 1]]}}),
     "no shop": ("/api/plan", {}), "no order": ("/api/plan", {"shop": SHOP}), "no kind": ("/api/file", PLAN),
