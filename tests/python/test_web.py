@@ -307,8 +307,8 @@ def test_rows_are_read_with_options(rows: Any, options: Any, shop: Any, rounded:
 def test_a_file_is_read_with_its_rows(code: str, client: FlaskClient) -> None:
     table = TABLE.replace("box", "K\u00fcche")
     assert read(client, table.encode(code)) == {
-        **AS_READ, "shop": {**SHOP, "jobs": [*SHOP["jobs"][:3], "K\u00fcche"]}, "delimiter": ";", "texts": None, "sheets": [],
-        "sheet": None, "isOther": code == "cp1252",
+        **AS_READ, "shop": {**SHOP, "jobs": [*SHOP["jobs"][:3], "K\u00fcche"]}, "delimiter": ";", "texts": None,
+        "sheets": [], "sheet": None, "isOther": code == "cp1252",
         "rows": [[line, row.split(";")] for line, row in enumerate(table.splitlines(), 1)]}
 
 
@@ -500,7 +500,8 @@ TOLD: dict[str, Any] = {
             ["saw", "10.0", 60.6, "0.0", "0.0", "6.5", 60.6], ["drill", "9.5", 57.6, "1.0", "2.0", "4.0", 15.2],
             ["paint", "13.5", 81.8, "2.0", "1.0", "0.0", 24.2]],
         "jobs": [["box", "2026-11-30 06:00", "2026-11-30 14:00"], ["chair", "2026-11-30 07:00", "2026-12-01 07:30"],
-                 ["shelf", "2026-11-30 09:00", "2026-12-01 09:30"], ["table", "2026-11-30 13:00", "2026-12-02 06:30"]]})])
+                 ["shelf", "2026-11-30 09:00", "2026-12-01 09:30"],
+                 ["table", "2026-11-30 13:00", "2026-12-02 06:30"]]})])
 def test_a_plan_is_told(asks: dict[str, Any], told: dict[str, Any], client: FlaskClient) -> None:
     got = answer(client, "/api/plan", {**PLAN, **asks})
     chart = got.pop("chart")

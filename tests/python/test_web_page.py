@@ -12,7 +12,7 @@ from typing import Any
 import pytest
 from support.needs import require_module, tool
 from support.tools import wait_until
-from test_web_server import LONG, SHOP, Server, served
+from test_web_server import SHOP, Server, served
 
 for module in ("flask", "waitress", "selenium", "openpyxl"):
     require_module(module)
@@ -140,7 +140,8 @@ window.fetch = async (path, given = {}) => {
   if (failure && !failure[0]) throw new TypeError();
   if (failure) return new Response(failure[2], {status: failure[0], headers: {"Content-Type": failure[1]}});
   if (name === "search") return Response.json({search: "S"});
-  if (name === "search/S") return Response.json(given.method === "GET" && await new Promise(done => { teller = done; }));
+  if (name === "search/S")
+    return Response.json(given.method === "GET" && await new Promise(done => { teller = done; }));
   late = null;
   busy += !wait;
   const answer = await ownFetch(path, given), content = await answer.arrayBuffer();
@@ -165,14 +166,14 @@ const wordsOf = (each, ...more) => [...more, ...WORDS].map(name => each.getAttri
   .filter(word => word && word !== "text").join(" ");
 function controlOf(each) {
   const words = each.dataset.key ? "" : wordsOf(each, "aria-label", "title");
-  const value = each.options ? [...each.options].map(one => one.text + (one.selected ? "*" : "")).join("/") : each.value;
+  const value = each.options ? [...each.options].map(one => one.text + "*".repeat(one.selected)).join("/") : each.value;
   const text = each.type === "checkbox" ? (each.checked ? "[x]" : "[ ]") : each.matches("button")
     ? `[${each.textContent}]` : `<${words && `${words}: `}${value ?? ""}>`;
   const focus = each !== document.activeElement ? "" : each.type === "text" && each.selectionStart < each.selectionEnd
     ? `!${each.selectionStart}-${each.selectionEnd}` : "!";
   return each.matches("button[data-key]") && !focus ? "" : `${text}${each.disabled ? "(off)" : ""}${focus} `;
 }
-// What is seen, line by line. Buttons of lists are seen where they have the focus.
+// What is seen, line by line, but for numbers, and for buttons of lists that haven't the focus.
 window.seen = () => {
   const lines = [`${document.title} ${location.pathname}${location.hash}`];
   let line = "";
@@ -181,6 +182,7 @@ window.seen = () => {
     if (node.nodeType === Node.TEXT_NODE) line += node.data;
     if (!node.checkVisibility?.()) return;
     if (node.matches(BLOCKS)) end();
+    if (node.matches(".number")) return;
     if (node.matches("td + *, th + *")) line += "|";
     line += SIGNS.filter(sign => node.classList.contains(sign)).map(sign => `{${sign}}`).join("");
     if (node.role && node.textContent) line += `${node.role}: `;
@@ -194,8 +196,8 @@ window.seen = () => {
 };
 // What is said of a row's controls and texts.
 window.said = key => [...document.querySelector(`[data-key="${key}"]`).closest("tr").querySelectorAll("[title]")]
-  .map(each => [...new Set([each.ariaLabel, each.title])].concat(wordsOf(each), each.matches("button") && each.textContent,
-                each.ariaInvalid === "true" && "invalid").filter(Boolean).join(" | "));
+  .map(each => [...new Set([each.ariaLabel, each.title]), wordsOf(each), each.matches("button") && each.textContent,
+                each.ariaInvalid === "true" && "invalid"].filter(Boolean).join(" | "));
 }"""
 
 
@@ -206,9 +208,9 @@ def flat(value: Any, name: str = "") -> dict[str, Any]:
 
 
 class Play:
-    """Does the steps of a script. Each has after :: what the page asks (>), as its difference from the request before,
-    and what is seen then: how many lines less (-), and the new ones (+); or what a question shows (=). After a step that
-    begins with ~ nothing is looked at."""
+    """Does the steps of a script. After :: is what the page asks (>), as its difference from the request before, and
+    what is seen: how many lines less (-), and the new ones (+); or what a question shows (=). After a step that begins
+    with ~ nothing is looked at."""
 
     def __init__(self, page: Page, files: dict[str, bytes]) -> None:
         run, place = page.browser.execute_script, "document.querySelector(arguments[0])"
@@ -232,6 +234,7 @@ class Play:
             "come": lambda: run("come()"),
             "fail": lambda text: run("fails = arguments[0]", [int(text.split()[0]), *text.split(" ", 2)[1:]]),
             "do": run, "row": lambda key: run("return said(arguments[0])", key),
+            "numbers": lambda: [each.text for each in page.all(".number")],
             "headings": lambda: [each.text for each in page.all("h1, h2") if each.is_displayed()]}
 
     def drag(self, *names: str) -> None:
@@ -258,7 +261,7 @@ class Play:
 
     def step(self, line: str) -> Iterator[str]:
         verb, _, words = line.removeprefix("~").partition(" ")
-        given = [words] * bool(words) if verb in ("do", "tell") else re.split(" = ?", words, maxsplit=1)[:bool(words) * 2]
+        given = [words] if verb in ("do", "tell") else re.split(" = ?", words, maxsplit=1)[:2 * bool(words)]
         found = self.verbs[verb](*given)
         self.page.browser.execute_async_script("idle().then(arguments[0])")
         yield from self.asked()
@@ -302,10 +305,11 @@ def test_each_step_in_german(page: Page) -> None:
 
 # Looks at a list of many rows as it is scrolled, and at what gets the focus there.
 LIST = r"""
-const done = arguments[0], faults = [], later = () => new Promise(next => requestAnimationFrame(() => setTimeout(next)));
+const faults = [], done = arguments[0];
+const later = () => new Promise(next => requestAnimationFrame(() => setTimeout(next)));
 const check = (isTrue, ...what) => { if (!isTrue) faults.push(what.join(" ")); };
 (async () => {
-  const box = made("div", null, document.body, {className: "list"});
+  const box = made("div", null, document.body, {className: "list"}), own = () => document.activeElement;
   const list = listIn(box, at => {
     const row = rowOf([`row ${at}`]);
     control("input", `k${at}`, "", row.lastChild, {type: "text", value: "old"});
@@ -313,49 +317,43 @@ const check = (isTrue, ...what) => { if (!isTrue) faults.push(what.join(" ")); }
   }, () => rowOf(["head"], null, "th"));
   for (const count of [1, 40, 5000]) {
     list.show(count);
-    check(Math.abs(box.scrollHeight - 32 * (count + 1)) < 3 && box.clientHeight <= 360, "height", count, box.scrollHeight);
-    check(box.firstChild.ariaRowCount === String(count), "rows", count);
+    check(Math.abs(box.scrollHeight - 32 * (count + 1)) < 3 && box.firstChild.ariaRowCount === `${count}`, "size");
     for (const top of [0, 1, 383, 385, 416, 3001, 32 * count]) {
       box.scrollTop = top;
       await later();
       const rows = [...box.querySelectorAll("tbody tr[aria-rowindex]")], places = rows.map(row => row.ariaRowIndex - 1);
       const first = Math.floor(box.scrollTop / 32), last = Math.ceil((box.scrollTop + box.clientHeight) / 32) - 2;
-      check(places[0] === Math.max(0, first - 12) && places.length < 60 && places.at(-1) >= Math.min(count - 1, last + 11),
-            "drawn", count, top, places[0], places.at(-1));
-      check(rows.every((row, at) => row.offsetTop === 32 * (places[at] + 1) && row.offsetHeight === 32
+      check(places[0] === Math.max(0, first - 12) && places.length < 60
+            && places.at(-1) >= Math.min(count - 1, last + 11), "drawn", count, top, places);
+      check(rows.every((row, at) => row.offsetTop === 32 * (places[at] + 1)
                                     && row.textContent === `row ${places[at]}`), "places", count, top);
       for (const at of [first - 1, first, first + 1, last - 2, last, last + 1, 4000]) {
         if (at < 0 || at >= count) continue;
         box.scrollTop = top;
         await later();
-        const before = box.scrollTop, field = list.reach(at, `k${at}`), own = field?.getBoundingClientRect();
-        const {top: high, bottom} = box.getBoundingClientRect();
-        check(field && field === document.activeElement && own.top >= high + 32 && own.bottom <= bottom, "reach", top, at);
+        const before = box.scrollTop, field = list.reach(at, `k${at}`);
+        const [inner, outer] = [field ?? box, box].map(each => each.getBoundingClientRect());
+        check(field === own() && inner.top >= outer.top + 32 && inner.bottom <= outer.bottom, "reached", top, at);
         check(at < first + 1 || at > last - 2 || box.scrollTop === before, "stays", top, at);
       }
     }
   }
-  list.show(5000);
-  const field = list.reach(100, "k100"), row = field.closest("tr");
+  const field = list.reach(100, "k100");
   field.value = "new";
   field.setSelectionRange(1, 2);
   box.scrollTop += 5;
   await later();
-  check(row.isConnected, "drawn again");
+  check(field.isConnected, "is drawn again");
   list.show(5000);
-  check(document.activeElement.value === "new" && document.activeElement.selectionStart === 1
-        && document.activeElement.selectionEnd === 2, "typed");
+  check([own().value, own().selectionStart, own().selectionEnd].join() === "new,1,2", "keeps what is typed");
   const top = box.scrollTop += 320;
   await later();
-  check(box.scrollTop === top && document.activeElement.dataset.key === "k100", "jumps");
-  check(list.reach(7, "none") === null, "none");
+  check(box.scrollTop === top && own().dataset.key === "k100" && list.reach(7, "none") === null, "jumps");
   list.show(0);
   check(box.hidden, "hidden");
-  for (const [number, name] of [[1, "A"], [26, "Z"], [27, "AA"], [52, "AZ"], [53, "BA"], [702, "ZZ"], [703, "AAA"], [16384, "XFD"]])
-    check(letters(number) === name, name);
-  box.remove();
+  for (const [number, name] of Object.entries({1: "A", 26: "Z", 27: "AA", 52: "AZ", 53: "BA", 702: "ZZ", 703: "AAA"}))
+    check(letters(Number(number)) === name, name);
 })().then(() => done(faults), error => done([String(error)]));"""
-
 
 
 def test_a_list_of_many_rows(page: Page) -> None:
@@ -367,65 +365,70 @@ def test_a_list_of_many_rows(page: Page) -> None:
 # What a planner would complain of, on the page as it is.
 LOOK = r"""
 const faults = [], all = selector => [...document.querySelectorAll(selector)].filter(each => each.checkVisibility());
-const check = (isTrue, what, each) => {
-  if (!isTrue) faults.push(`${what}: ${each.tagName} ${each.id || each.dataset.key || each.textContent.slice(0, 30)}`);
-};
+const check = (isTrue, what, each) => isTrue || faults.push([what, each.tagName, each.id, each.textContent]);
 const style = (each, name) => getComputedStyle(each)[name], box = each => each.getBoundingClientRect();
-const isDark = matchMedia("(prefers-color-scheme: dark)").matches, body = document.body;
+const body = document.body, room = document.documentElement.clientWidth;
+const dark = matchMedia("(prefers-color-scheme: dark)");
 const over = (text, under) => {
   const [red, green, blue, part = 1] = text.match(/[\d.]+/g).map(Number);
   return [red, green, blue].map((each, at) => part * each + (1 - part) * under[at]);
 };
-const ground = each => each ? over(style(each, "backgroundColor"), ground(each.parentElement)) : [0, 0, 0].fill(isDark ? 18 : 255);
-const light = colour => colour.map(each => each / 255).map(each => each < .04 ? each / 12.92 : ((each + .055) / 1.055) ** 2.4)
-  .reduce((sum, each, at) => sum + each * [.2126, .7152, .0722][at], .05);
-const inked = each => { const range = new Range(); range.selectNodeContents(each); return range.getBoundingClientRect(); };
+const ground = (each, last = Array(3).fill(dark.matches ? 18 : 255)) => each
+  ? over(style(each, "backgroundColor"), ground(each.parentElement, last)) : last;
+const light = colour => colour.map(each => each / 255).reduce((sum, each, at) => sum + [.2126, .7152, .0722][at]
+  * (each < .04 ? each / 12.92 : ((each + .055) / 1.055) ** 2.4), .05);
 for (const each of all("body *")) {
-  const [dark, bright] = [light(over(style(each, "color"), ground(each))), light(ground(each))].sort((a, b) => a - b);
+  const [one, other] = [light(over(style(each, "color"), ground(each))), light(ground(each))];
   if (each.matches("input, textarea") || [...each.childNodes].some(node => node.nodeType === 3 && node.data.trim()))
-    check(bright > 4.5 * dark, "hard to read", each);
-  check(box(each).right <= innerWidth && box(each).left >= 0 || each.closest("table, .list"), "outside", each);
+    check(Math.max(one / other, other / one) > 4.5, "hard to read", each);
+  check(box(each).right <= room && box(each).left >= 0 || each.closest("table, .list"), "outside", each);
 }
-for (const each of all("input, select, button, textarea")) for (const name of ["fontFamily", "fontSize"])
-  check(style(each, name) === style(body, name), name, each);
-for (const row of all("header, section div:not(.list), #options")) {
-  const parts = [...row.children].filter(each => each.checkVisibility() && box(each).width);
-  parts.forEach((each, at) => {
-    const next = parts[at + 1], isBelow = next && box(next).top >= box(each).bottom;
-    check(!next || box(next)[isBelow ? "top" : "left"] - box(each)[isBelow ? "bottom" : "right"] >= 7, "too close", each);
-    check(!next || isBelow || Math.abs(box(each).top + box(each).bottom - box(next).top - box(next).bottom) < 20, "middle", each);
+for (const row of all("header, section div:not(.list), #options"))
+  [...row.children].filter(each => each.checkVisibility() && box(each).width).forEach((each, at, parts) => {
+    const own = box(each), next = parts[at + 1] && box(parts[at + 1]), isBelow = next && next.top >= own.bottom;
+    check(!next || (isBelow ? next.top - own.bottom : next.left - own.right) >= 7, "too close", each);
+    check(!next || isBelow || Math.abs(own.top + own.bottom - next.top - next.bottom) < 20, "not in line", each);
   });
-}
-const lengths = {  // Of what is seen by these names: the least and the most.
-  "body": ["width", Math.min(innerWidth, 1230) - 20, 1230], ".list tr[aria-rowindex], .list thead tr": ["height", 32, 32],
-  ".list, #faults": ["height", 0, 362], "iframe": ["height", 400, 500], "section > *:not(table, h3)": ["width", .9 * (Math.min(innerWidth, 1230) - 30), 1230],
-  "#order table": ["width", .98 * (all("#order")[0]?.clientWidth ?? 0), 5000], "#table td:first-of-type input": ["width", 150, 200],
-  "#table td:not(:first-of-type) input": ["width", 90, 130], "[type=number]": ["width", 50, 80]};
-for (const [selector, [side, least, most]] of Object.entries(lengths))
-  for (const each of all(selector)) check(box(each)[side] >= least - 1 && box(each)[side] <= most + 1, `${side} ${box(each)[side]}`, each);
-const styles = {
-  "#plan, .best td": ["fontWeight", "600"], "#table .off input": ["opacity", "0.5"], ".list thead th": ["position", "sticky"],
-  ".number": ["textAlign", "right"], "td:not(.number), #faults button": ["textAlign", /left|start/], ".list td": ["textOverflow", "ellipsis"],
-  "#table [type=text]": ["borderTopStyle", "none"], ".wrong": ["outlineStyle", "solid"], "#drop": ["borderTopStyle", "dashed"],
-  "#message": ["whiteSpace", "pre-wrap"], "h2": ["borderBottomStyle", "solid"], "td, th": ["borderLeftStyle", "solid"]};
-for (const [selector, [name, due]] of Object.entries(styles))
-  for (const each of all(selector)) check(style(each, name).match(due), `${name} ${style(each, name)}`, each);
-for (const each of all(".held, .moved, .wrong")) check(ground(each).join() !== ground(body).join(), "not marked", each);
-for (const each of all(".list thead th")) check(over(style(each, "backgroundColor"), [9, 9, 9]).join() === over(style(each, "backgroundColor"), [0, 0, 0]).join(), "seen through", each);
-for (const each of all("#order .name")) check([...each.parentElement.cells].every(cell => box(cell).width <= box(each).width), "narrow", each);
+const most = Math.min(room, 1230);
+// What is seen by these names: its width or height, from the least to the most.
+for (const [selector, side, least, greatest] of [
+    ["body", "width", most - 20, most], [".list tr[aria-rowindex], .list thead tr", "height", 32, 32],
+    [".list, #faults", "height", 0, 361], ["iframe", "height", 400, 500],
+    ["section > *:not(table, h3)", "width", .9 * most - 27, most],
+    ["#order table", "width", .98 * all("#order")[0]?.clientWidth || 0, 5000],
+    ["#table td:first-of-type input", "width", 150, 200], ["#table td:not(:first-of-type) input", "width", 90, 130],
+    ["[type=number]", "width", 50, 80]])
+  for (const each of all(selector)) check(box(each)[side] >= least && box(each)[side] <= greatest, side, each);
+for (const [selector, name, due] of [
+    ["#plan, .best td", "fontWeight", "600"], ["#table .off input", "opacity", "0.5"],
+    [".number", "textAlign", "right"], ["td:not(.number), #faults button", "textAlign", "left"],
+    [".list td", "textOverflow", "ellipsis"],
+    ["#table [type=text]", "borderTopStyle", "none"], [".wrong", "outlineStyle", "solid"],
+    ["#drop", "borderTopStyle", "dashed"], ["#message", "whiteSpace", "pre-wrap"], ["h2", "borderBottomStyle", "solid"],
+    ["td, th", "borderLeftStyle", "solid"], ["body, input, select, button, textarea", "fontSize", "15px"],
+    ["input, select, button, textarea", "fontFamily", style(body, "fontFamily")]])
+  for (const each of all(selector)) check(style(each, name) === due, `${name} ${style(each, name)}`, each);
+for (const each of all(".held, .moved, .wrong")) check(`${ground(each)}` !== `${ground(body)}`, "not marked", each);
+for (const each of all(".list thead th")) check(!style(each, "backgroundColor").includes("a"), "is seen through", each);
+for (const each of all("#order .name")) for (const cell of each.parentElement.cells)
+  check(box(cell).width <= box(each).width, "wider than the name", cell);
 scrollTo(0, 300);
-for (const each of all("#message")) check(box(each).top === 0 && document.elementFromPoint(innerWidth / 2, 5) === each, "scrolled away", each);
+for (const each of all("#message")) check(document.elementFromPoint(room / 2, 5) === each, "scrolled away", each);
+for (const each of all(".list thead th")) {
+  each.closest(".list").scrollTop = 100;
+  check(Math.abs(box(each).top - box(each.closest(".list")).top) < 2, "scrolled away", each);
+}
 scrollTo(0, 0);
-check(Math.abs(box(body).left - (document.documentElement.clientWidth - box(body).right)) < 2, "not in the middle", body);
+check(Math.abs(box(body).left + box(body).right - room) < 2, "not in the middle", body);
 return faults;"""
-
 
 
 @pytest.mark.parametrize(("wide", "colours"), [(1600, "light"), (1200, "dark"), (390, "light")])
 def test_nothing_is_hard_to_read(wide: int, colours: str, page: Page) -> None:
     """On a large screen, in dark colours, and on a phone: before there is a table, with faults, and with a plan."""
     send, run = page.browser.execute_cdp_cmd, page.browser.execute_script
-    send("Emulation.setDeviceMetricsOverride", {"width": wide, "height": 500, "deviceScaleFactor": 1, "mobile": wide < 400})
+    send("Emulation.setDeviceMetricsOverride", {"width": wide, "height": 500, "deviceScaleFactor": 1,
+                                                "mobile": wide < 400})
     send("Emulation.setEmulatedMedia", {"features": [{"name": "prefers-color-scheme", "value": colours}]})
     try:
         page.open("de")
@@ -538,18 +541,14 @@ def test_the_page_has_the_language_of_the_browser(page: Page) -> None:
 
 @pytest.mark.seconds(30)
 def test_five_thousand_jobs(page: Page) -> None:
-    """Only the rows that are seen are drawn. All can be reached, and so can a fault."""
+    """A fault among them is reached, and mended."""
     page.open()
     rows = "".join(f"J{at},{at * 37 % 997 + 1},{at * 53 % 991 + 1}\n" for at in range(5_000))
     page.drop("large.csv", f"job,saw,drill\n{rows}".replace("\nJ4000,445,", "\nJ4000,x,").encode())
     page.wait(lambda: page.all("#faults button"))
     page.all("#faults button")[0].click()
     page.browser.switch_to.active_element.send_keys(Keys.CONTROL, "a", Keys.NULL, "445")
-    # What is written is taken also when it is scrolled away, and the heads stay.
+    # What is written is taken also when it is scrolled away.
     page.browser.execute_script("byId('table').scrollTop = 0")
     page.wait(lambda: "5000 jobs" in page.text("#read"))
-    Select(page.one("#seconds")).select_by_value("2")
-    page.click("#plan")
-    page.wait(lambda: page.one("#plan").is_enabled() and page.text("#ends"), "the search is done")
-    assert len(page.all("#table tbody tr")) < 100 and len(page.all("#order tbody tr")) < 100
     assert page.logged() == []
