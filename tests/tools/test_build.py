@@ -330,7 +330,7 @@ def test_what_is_needed_is_in_a_package(top: pathlib.Path) -> None:
     imported = {*re.findall(r"^ *(?:import|from) (\w+)[\w.]*(?: as \w+| import .*)?$", text, re.MULTILINE)} \
         - {*sys.stdlib_module_names} - own
     names = {*re.findall(r"\"([\w+-]+)\"", " ".join(asked))} | imported
-    assert len(names) > 50 and {name for name in names if package_of(name) is None} == {"rt", "timeout"}
+    assert len(names) > 50 and {name for name in names if package_of(name) is None} == {"timeout"}
     listed = [package.name for package in packages()]
     built = re.findall("^Build-Depends: (.*)$", (top / "debian" / "control").read_text(), re.MULTILINE)[0]
     assert {*re.sub(r"-compat| \(.*?\)", "", built).split(", ")} <= {*listed} and len(listed) == len({*listed})
