@@ -45,7 +45,7 @@ esac
 ])
 def test_each_crate_is_built_once_after_those_below_it(targets: str, status: int, notes: str, stdout: str, said: str,
                                                        top: pathlib.Path, folder: pathlib.Path) -> None:
-    """And none after one that fails. What a log had before is no part of it."""
+    """And none after one that fails. What a log had before is left out."""
     (folder / "crates.txt").write_text("pfs: right low other\nright: low\nlow:\nabove: left\nleft: low\n"
                                        "one staticlib:\ntwo: low\nstopped:\nbad:\nfree:\nthird:\n")
     for crate in ("pfs", "right", "low", "above", "left", "one", "two", "stopped", "bad", "free", "third"):
