@@ -327,7 +327,7 @@ def test_what_is_needed_is_in_a_package(top: pathlib.Path) -> None:
     asked = re.findall(r"\b(?:tool|require_module|require_debian_module|which)\((\"[\w+-]+\")\)", text) \
         + re.findall(r"\bfor (?:command|module) in \((.*?)\)", text)
     own = {"fuzz", "pfs", "support", *(path.stem for path in paths), "werkzeug", "_pytest"}
-    imported = {*re.findall(r"^ *(?:import|from) (\w+)[\w.]*(?: as \w+| import .*)?$", text, re.MULTILINE)} \
+    imported = {*re.findall(r"^ *(?:import|from) ([a-z_]\w*)[\w.]*(?: as \w+| import .*)?$", text, re.MULTILINE)} \
         - {*sys.stdlib_module_names} - own
     names = {*re.findall(r"\"([\w+-]+)\"", " ".join(asked))} | imported
     assert len(names) > 50 and {name for name in names if package_of(name) is None} == {"timeout"}
