@@ -86,7 +86,7 @@ mutants: out/lines
 # Which tests run which lines of the package for Python, and in out/tests.xml how long each takes.
 out/lines: $(PROGRAM) $(LIBRARY) $(shell find python/src/pfs tests -name '*.py')
 	mkdir -p out
-	COVERAGE_FILE=$(CURDIR)/$@ $(PYTEST) -n auto -q --cov=$(CURDIR)/python/src/pfs --cov-branch --cov-context=test \
+	COVERAGE_FILE="$(CURDIR)/$@" $(PYTEST) -n auto -q --cov="$(CURDIR)/python/src/pfs" --cov-branch --cov-context=test \
 	    --junitxml=out/tests.xml --ignore=tests/python/test_web_page.py tests/python || [ $$? = 1 ]  # some failed
 
 $(PROGRAM): crates.txt $(shell find crates \( -name out -o -name must-fail -o -name pfs_c -o -name pfs_calls \

@@ -316,6 +316,7 @@ int pfs_rounds(struct pfs_instance *instance, const struct pfs_rounds_options *o
  * are sequences of distinct jobs, of any length: 9,864,101 for 10 jobs.
  *
  * A call with more nodes searches from scratch. Start it from the order that the last call found, which saves nodes.
+ * Since version 2.1.0.
  *
  * @param[in,out] instance the instance, of at most 256 jobs and 64 machines
  * @param[in,out] order all jobs; the order to start from, then the best order found, which is no longer
@@ -366,7 +367,8 @@ struct pfs_iterate_options {
  *
  * Round r uses the n + take + 1 random words from word r * (n + take + 1) of the seed on, n being the number of jobs:
  * one to accept, `take` to remove, and n for the order of the passes. So a search may be made in parts: rounds 0 to 99
- * and then rounds 100 to 199, from both orders of the first part, leave the same orders as rounds 0 to 199.
+ * and then rounds 100 to 199, from both orders of the first part, leave the same orders as rounds 0 to 199. Since
+ * version 2.1.0.
  *
  * @param[in] options which rounds to make
  * @param[in] accept chances of longer orders

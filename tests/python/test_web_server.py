@@ -295,8 +295,14 @@ def test_the_recipe_for_nginx_serves_the_page_by_tls(token_file: pathlib.Path, t
             stop(proxy)
 
 
+# What systemd doesn't deny the unit, by the names of its analysis.
+RIGHTS = {"SystemCallFilter_resources", "SystemCallFilter_privileged", "RootDirectoryOrRootImage", "PrivateMounts",
+          "MemoryDenyWriteExecute", "RestrictAddressFamilies_AF_UNIX", "RestrictAddressFamilies_AF_INET_INET6",
+          "ProcSubset", "PrivateNetwork", "DeviceAllow", "IPAddressDeny"}
+
+
 def test_the_unit_is_one_that_systemd_reads_and_has_few_rights(tmp_path: pathlib.Path) -> None:
-    """Each right that it has counts, up to 100 for all. The page on installing writes the files that it reads."""
+    """The page on installing writes the files that it reads, and says how much memory it may use."""
     analyze = shutil.which("systemd-analyze")
     if analyze is None:
         pytest.skip("systemd isn't installed")
@@ -306,8 +312,13 @@ def test_the_unit_is_one_that_systemd_reads_and_has_few_rights(tmp_path: pathlib
     unit.write_text(text.replace("/usr/bin/pfs-web", "/bin/true"))
     done = run_tool([analyze, "verify", "--man=no", unit], tmp_path)
     assert "pfs-web" not in done.stderr, done.stderr
-    done = run_tool([analyze, "security", "--no-pager", "--offline=true", "--threshold=16", unit], tmp_path)
-    assert done.status == 0, done.stdout
+    done = run_tool([analyze, "security", "--no-pager", "--offline=true", "--json=short", unit], tmp_path)
+    assert {each["json_field"] for each in json.loads(done.stdout) if not each["set"]} == RIGHTS
+    set_to = dict(re.findall("^(\\w+)=(.*)$", text, re.MULTILINE))
+    page = (TOP / "docs" / "INSTALL.md").read_text()
+    assert set_to["Environment"] == f"HOME=/var/cache/{set_to['CacheDirectory']}", "what it may write"
+    assert f"at most {set_to['MemoryMax'].removesuffix('G')} GB of memory" in page
+    assert (TOP / "python" / re.sub(r"man:(.*)\((.)\)", r"\1.\2", set_to["Documentation"])).is_file()
     # systemd splits $NAME at blanks, but not ${NAME}.
     options, = re.findall(r'PFS_WEB_OPTIONS=\\"(.*)\\"', whole)
     command, = re.findall("^ExecStart=(.*)", text, re.MULTILINE)
@@ -315,5 +326,5 @@ def test_the_unit_is_one_that_systemd_reads_and_has_few_rights(tmp_path: pathlib
     got, (name,) = web.words().parse_args(words), re.findall("^LoadCredential=(.*):", text, re.MULTILINE)
     assert (got.host, got.name, got.token_file) == ("0.0.0.0", ["planning.example"], f"<CREDENTIALS_DIRECTORY>/{name}")
     files = [set(re.findall(r"/etc/(?:[\w/.-]*token|default/pfs-web)\b", each))
-             for each in (text, (TOP / "docs" / "INSTALL.md").read_text())]
+             for each in (text, page)]
     assert files[0] == files[1] and len(files[0]) == 2

@@ -86,19 +86,22 @@ def environment(folder: pathlib.Path, pfs: Program) -> dict[str, str]:
 @pytest.fixture(scope="module")
 def copy(top: pathlib.Path, pfs: Program, libpfs: Library, tmp_path_factory: pytest.TempPathFactory) -> Copy:
     """The copy, whose program and library are newer than its sources, as after `git clone` by somebody whose files
-    nobody else can read."""
+    nobody else can read. Some are older than the commit, and there is what a run from there leaves."""
     for command in ("git", "make"):
         tool(command)
     folder = tmp_path_factory.mktemp("copy")
-    made = Copy(folder / "repository", environment(folder, pfs))
+    made = Copy(folder / "the répository", environment(folder, pfs))
     shutil.copytree(top, made.top, ignore=shutil.ignore_patterns("out", "__pycache__", ".git"))
-    (made.top / ".gitignore").write_text("out/\ndist/\n")
     made.git("init", "-q")
+    (made.top / ".git" / "info" / "exclude").write_text(f"/python/src/pfs/{SHARED}\n")
+    for left in (f"src/pfs/{SHARED}", "src/pfs/__pycache__/left.py"):
+        (made.top / "python" / left).parent.mkdir(exist_ok=True)
+        (made.top / "python" / left).touch()
     made.git("add", ".")
     made.git("commit", "-q", "-m", "All that is there")
     for path in made.top.rglob("*"):
         path.chmod(path.stat().st_mode & 0o700)
-        os.utime(path, (OLD, OLD))
+        os.utime(path, (OLD, OLD - path.name.startswith("p")))
     for built, place in ((pfs.path, PROGRAM), (libpfs.path, f"lib/out/{SHARED}"),
                          (libpfs.path.with_name("libpfs.a"), "lib/out/libpfs.a")):
         (made.top / place).parent.mkdir(exist_ok=True)

@@ -12,35 +12,39 @@ from support.installed import (LIBRARY, NEW, OLD, PLACES, PROGRAM, SHARED, VERSI
 from support.library import Library
 from support.needs import tool
 from support.program import Program
-from support.tools import output_of, run_tool, write_script
+from support.tools import Done, output_of, run_tool, write_script
 
 # so that the copy is made once
 pytestmark = [pytest.mark.xdist_group("installing"), pytest.mark.seconds(30)]
 
 
-def make(copy: Copy, goal: str, *variables: str) -> None:
+PAGE = ("pfs-plan, pfs-web, pfs-gantt and pfs-experiments are in the package for Python: `make wheel`, and then "
+        "python/README.md says how pip installs it\n")
+
+
+def make(copy: Copy, goal: str, *variables: str, printed: str = "") -> None:
     """Under a mask that leaves nothing to others: modes are the usual ones whoever installs."""
     old = os.umask(0o077)
     try:
         got = copy.make(goal, *variables)
     finally:
         os.umask(old)
-    assert (got.status, got.stderr) == (0, ""), got
+    assert got == Done(0, printed, "")
 
 
 @pytest.mark.parametrize(("prefix", "goal"), [("/usr/local", "install"), ("/opt/pfs", "install"),
                                               ("/opt/pfs", "install-lib")])
 def test_what_is_installed_runs_and_is_removed(prefix: str, goal: str, copy: Copy, folder: pathlib.Path) -> None:
-    """What others have installed stays, and folders that others use too."""
+    """What others have installed stays, and folders that others use too. What was left half-way is replaced."""
     root, place = folder / "a place", folder / "a place" / prefix[1:]
-    mine = place / "share" / "man" / "man1" / "other.1"
-    mine.parent.mkdir(parents=True)
-    mine.write_text("another page\n")
+    mine = {"share/man/man1/other.1", "share/doc/pfs/other"}
+    for name in (*mine, "lib/libpfs.so.new"):
+        (place / name).parent.mkdir(parents=True)
+        (place / name).symlink_to("nowhere") if "new" in name else (place / name).touch()
     variables = [f"DESTDIR={root}"] + ([f"PREFIX={prefix}"] if prefix != "/usr/local" else [])
     for _ in range(2):
         make(copy, goal, *variables)
-    found = contents_of(place)
-    del found["share/man/man1/other.1"]
+    found = {name: text for name, text in contents_of(place).items() if name not in mine}
     config, version = (found.pop(name).decode() for name in VERSIONED)
     assert config.startswith(f"prefix={prefix}\n") and f"\nVersion: {VERSION}\n" in config and "@" not in config
     assert f'(PACKAGE_VERSION "{VERSION}")\n' in version
@@ -54,8 +58,14 @@ def test_what_is_installed_runs_and_is_removed(prefix: str, goal: str, copy: Cop
         assert_completions_are_found(root, place, folder)
     make(copy, "uninstall", *variables)
     make(copy, "uninstall", *variables)
-    assert set(contents_of(root)) == {str(mine.relative_to(root))}
-    assert [path for path in root.rglob("*") if path.is_symlink() or "pfs" in path.name and path != place] == []
+    assert set(contents_of(place)) == mine
+    left = [path for path in place.rglob("*") if path.is_symlink() or "pfs" in path.name]
+    assert left == [place / "share" / "doc" / "pfs"]
+
+
+def test_without_the_library_the_program_is_installed_alone(copy: Copy, folder: pathlib.Path) -> None:
+    make(copy, "install", f"PREFIX={folder}", "LIBRARY=none", printed=PAGE)
+    assert contents_of(folder).keys() == PLACES.keys()
 
 
 @pytest.mark.parametrize(("prefix", "lib"), [
@@ -79,15 +89,14 @@ def test_a_folder_in_the_place_of_a_file_is_reported(name: str, copy: Copy, fold
     assert list((folder / name).iterdir()) == [] and list(folder.rglob("*.new")) == []
 
 
-def test_an_installation_that_ends_half_way_leaves_no_half_file(copy: Copy, folder: pathlib.Path) -> None:
-    """Here the copying is replaced: it writes half of the program, and is then killed."""
+@pytest.mark.parametrize("ends", ["KILL $$", "HUP $PPID", "INT $PPID", "TERM $PPID"])
+def test_an_installation_that_ends_half_way_leaves_no_half_file(ends: str, copy: Copy, folder: pathlib.Path) -> None:
+    """Here the copying is replaced: it writes half of the program, and then it or tools/install is killed."""
     (folder / "bin").mkdir()
     (folder / "bin" / "pfs").write_text("the program of an earlier version\n")
-    write_script(folder / "path" / "install", '#!/bin/sh\nfor last; do :; done\necho half > "$last"\nkill -9 $$\n')
+    write_script(folder / "path" / "install", f'#!/bin/sh\nfor last; do :; done\necho half > "$last"\nkill -{ends}\n')
     got = copy.make("install", f"PREFIX={folder}", PATH=f"{folder / 'path'}:{copy.env['PATH']}")
-    assert got.status != 0
-    assert (folder / "bin" / "pfs").read_text() == "the program of an earlier version\n"
-    assert [path.name for path in (folder / "bin").iterdir()] == ["pfs"]
+    assert got.status != 0 and contents_of(folder / "bin") == {"pfs": b"the program of an earlier version\n"}
 
 
 def test_files_of_version_1_are_named(top: pathlib.Path, folder: pathlib.Path) -> None:
@@ -107,6 +116,7 @@ def test_files_of_version_1_are_named(top: pathlib.Path, folder: pathlib.Path) -
     places = [folder / place for place in ("bin/pfs-experiments", "bin/pfs-gantt", "libexec/pfs", "lib/libpfs.so.0")]
     assert put() == (f"install: version 1 has left {' '.join(map(str, places))}: remove them, or run its "
                      "`make uninstall`\n")
+    assert run_tool(["tools/install", "take", "", folder, "lib"], top) == Done(0, "", ""), "a removal names nothing"
 
 
 # The library for C
@@ -171,37 +181,44 @@ def test_versions_that_cmake_accepts(request_: str, is_served: bool, top: pathli
 
 # Building before that
 
-@pytest.mark.parametrize(("name", "is_built"), [
-    ("crates.txt", True), ("crates/pfs/stdin", True), ("crates/pfs/src/main.rt", True),
-    ("crates/pfs_base/src/lib.rt", True), ("crates/pfs_layout/specs/Block.antt", True),
-    ("crates/pfs_layout/proofs/Computing.antt", True),
-    (PROGRAM, True), ("share/pfs.1", False), ("README.md", False), ("crates/pfs_tests/src/lib.rt", False)])
-def test_a_program_that_is_older_than_a_source_or_missing_is_built(name: str, is_built: bool, copy: Copy,
-                                                                   folder: pathlib.Path) -> None:
-    """Once. Other files have nothing built."""
+BUILT_LIBRARY = f"lib/out/{SHARED}"
+# What is older than which files.
+OLDER = [
+    ([PROGRAM, BUILT_LIBRARY], ["crates.txt", "crates/pfs_base/src/lib.rt", "crates/pfs_layout/specs/Block.antt",
+                                "crates/pfs_layout/proofs/Computing.antt"]),
+    ([PROGRAM], ["crates/pfs/stdin", "crates/pfs/src/main.rt", "crates/pfs_desk/src/lib.rt",
+                 "crates/pfs_words/src/lib.rt"]),
+    ([BUILT_LIBRARY], ["crates/pfs_c/src/lib.rt", "lib/pfs_text.c", "lib/pfs.h"]),
+    ([], ["crates/pfs_calls/src/main.rt", "crates/pfs_tests/src/lib.rt", "crates/pfs_base/out/build.log",
+          "crates/pfs_base/must-fail/a.edit", "share/pfs.1", "README.md"])]
+
+
+def test_what_is_older_than_a_source_would_be_built(copy: Copy) -> None:
+    for goals, names in OLDER:
+        for path in map(copy.top.joinpath, names):
+            is_new = not path.exists()
+            path.parent.mkdir(exist_ok=True)
+            path.touch()
+            got = copy.make(PROGRAM, BUILT_LIBRARY, "-n")
+            path.unlink() if is_new else os.utime(path, (OLD, OLD))
+            assert re.findall(r"^touch (\S+)", got.stdout, re.MULTILINE) == goals, path
+
+
+@pytest.mark.parametrize("name", ["crates.txt", PROGRAM])
+def test_a_program_that_is_older_than_a_source_or_missing_is_built_once(name: str, copy: Copy,
+                                                                        folder: pathlib.Path) -> None:
     path, library = copy.top / name, copy.top / "lib" / "out" / SHARED
     copy.built()
     try:
         os.utime(library, (NEW + 2, NEW + 2))
         path.unlink() if name == PROGRAM else os.utime(path, (NEW + 1, NEW + 1))
-        for built in ([str(copy.top / "crates" / "pfs")] * is_built, []):
+        for built in ([str(copy.top / "crates" / "pfs")], []):
             assert copy.make("install", f"DESTDIR={folder}").status == 0
             assert copy.built() == built
     finally:
         os.utime(path, (OLD, OLD))
         for made in (copy.top / PROGRAM, library):
             os.utime(made, (NEW, NEW))
-
-
-@pytest.mark.parametrize(("name", "is_old"), [
-    ("lib/pfs_text.c", 1), ("lib/pfs.h", 1), ("crates/pfs_c/src/lib.rt", 1),
-    ("crates/pfs_layout/proofs/Computing.antt", 1), ("crates/pfs_desk/src/lib.rt", 0), ("README.md", 0)])
-def test_a_library_that_is_older_than_a_source_would_be_built(name: str, is_old: int, copy: Copy) -> None:
-    os.utime(copy.top / name, (NEW + 1, NEW + 1))
-    try:
-        assert copy.make("lib/out/" + SHARED, "-q").status == is_old
-    finally:
-        os.utime(copy.top / name, (OLD, OLD))
 
 
 # What the program needs

@@ -9,7 +9,7 @@ from urllib.parse import unquote, urlsplit
 
 import pytest
 from support.needs import tool
-from support.tools import TOP, require_debian_module, run_tool
+from support.tools import TOP, Done, output_of, require_debian_module, run_tool
 
 
 pytestmark = [pytest.mark.long, pytest.mark.seconds(20), pytest.mark.xdist_group("site")]
@@ -77,14 +77,82 @@ def test_each_name_is_in_the_reference_and_found_by_a_search(site: pathlib.Path)
     assert ">best_place<" in (site / "docs" / "DEFINITIONS.html").read_text()
 
 
-def test_a_comment_with_other_parameters_is_an_error(top: pathlib.Path, folder: pathlib.Path) -> None:
+# A header with each kind of comment, and the lines of its page that aren't empty.
+HEADER = """/** @file
+ * @brief A library of `n` * 2.
+ *
+ *     int code = 1;
+ */
+/** @name Numbers of calls.
+ * Of all.
+ * @{
+ */
+#define PFS_OK 0 /**< it succeeded */
+#define PFS_MOST 5
+/** @} */
+/** @brief What struct pfs_it has. */
+struct pfs_it {
+    int a; /**< the first,
+            * PFS_ONE or more */
+    int *b; /**< another */
+};
+/** @brief Calls pfs_none.
+ *
+ * @param[in] list the list
+ * @param[in,out] it the struct,
+ *     or NULL
+ * @return PFS_OK
+ */
+int pfs_call(struct pfs_it *instance, const int *list, size_t list_length,
+             struct pfs_it *it) PFS_CHECKED;
+/** @brief The last number. */
+#define PFS_ONE 1
+/** @brief Nothing. */
+void pfs_none(void);
+"""
+REFERENCE = r"""C reference
+===========
+A library of ``n`` \* 2.
+.. code-block:: c
+    int code = 1;
+Numbers of calls
+----------------
+Of all.
+.. c:macro:: PFS_OK
+   0: it succeeded
+.. c:macro:: PFS_MOST
+   5
+.. c:struct:: pfs_it
+   What :c:struct:`pfs_it` has.
+   .. c:member:: int a
+      the first, :c:macro:`PFS_ONE` or more
+   .. c:member:: int *b
+      another
+Functions
+---------
+.. c:function:: int pfs_call(struct pfs_it *instance, const int *list, size_t list_length, struct pfs_it *it)
+   Calls :c:func:`pfs_none`.
+   :param list: the list
+   :param it: the struct, or NULL
+   :returns: :c:macro:`PFS_OK`
+.. c:macro:: PFS_ONE
+   The last number.
+.. c:function:: void pfs_none(void)
+   Nothing.
+"""
+
+
+def test_a_header_has_its_page(top: pathlib.Path, folder: pathlib.Path) -> None:
+    """A comment with other parameters than its function is an error."""
     for name in ("tools/site", "lib"):
         (folder / name).mkdir(parents=True)
-    shutil.copy(top / "tools" / "site" / "header", folder / "tools" / "site")
-    (folder / "lib" / "pfs.h").write_text(re.sub(r"param\[in\] machines ", "param[in] machine ",
-                                                 (top / "lib" / "pfs.h").read_text(), count=1))
-    got = run_tool([folder / "tools" / "site" / "header"], folder)
-    assert (got.status, got.stdout) == (1, "") and got.stderr.startswith("site/header: int pfs_")
+    header = shutil.copy(top / "tools" / "site" / "header", folder / "tools" / "site")
+    (folder / "lib" / "pfs.h").write_text(HEADER)
+    assert re.sub(r"\n\s*\n", "\n", output_of([header], folder)) == REFERENCE
+    (folder / "lib" / "pfs.h").write_text(HEADER.replace(" list the", " lists the"))
+    call, = re.findall("function:: (int .*)", REFERENCE)
+    assert run_tool([header], folder) \
+        == Done(1, "", f"site/header: {call}: the comment has the parameters ['lists', 'it']\n")
 
 
 def test_the_site_replaces_nothing_else(top: pathlib.Path, folder: pathlib.Path) -> None:

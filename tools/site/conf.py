@@ -15,7 +15,6 @@ copyright = "the pfs developers"
 extensions = ["myst_parser", "sphinx.ext.autodoc", "sphinx.ext.autosummary", "numpydoc"]
 autosummary_generate = False
 root_doc = "index"
-exclude_patterns = ["experiments/out"]
 html_theme = "alabaster"
 html_theme_options = {"description": "Permutation flow shop scheduling with machine-checked proofs",
                       "page_width": "1100px", "sidebar_width": "260px", "fixed_sidebar": True}
