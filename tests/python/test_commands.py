@@ -217,14 +217,14 @@ def test_two_searches_with_one_state(folder: pathlib.Path) -> None:
 
 
 def test_a_state_has_one_lock_whatever_link_leads_to_it(tmp_path: pathlib.Path) -> None:
-    shop = pfs.generate(5, 2, 1)
+    shop, before = pfs.generate(5, 2, 1), os.listdir("/proc/self/fd")
     (tmp_path / "link").symlink_to("state")
     search = _search.Search(shop, None, 0, None, 0, 0)
     with _state.State(str(tmp_path / "state"), shop, search):
         with pytest.raises(_state.StateInUse, match="link: another search is using this state"), \
                 _state.State(str(tmp_path / "link"), shop, search):
             raise AssertionError
-    assert sorted(os.listdir(tmp_path)) == ["link"]
+    assert sorted(os.listdir(tmp_path)) == ["link"] and os.listdir("/proc/self/fd") == before
 
 
 def test_a_lock_whose_file_another_search_removes_is_taken_again(folder: pathlib.Path,

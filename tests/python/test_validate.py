@@ -183,12 +183,13 @@ REJECTED: dict[Callable[[Any], object], list[tuple[Any, type[Exception], str]]] 
         *((("orlib", block), ValueError, f"block must be from 1 to 1,000, not {block}") for block in (0, 1001))],
     pfs.taillard: [(at, ValueError, f"number must be from 1 to 120, not {at}") for at in (0, 121)],
     lambda words: pfs.Instance(TIMES, **words): [
-        ({"job_names": ["a"]}, ValueError, "has 1 names, but 3 are needed"),
-        ({"machine_names": ["a", "a"]}, ValueError, "'a' occurs twice"),
+        ({"job_names": ["a"]}, ValueError, "^job_names has 1 names, but 3 are needed$"),
+        ({"machine_names": ["a", "a"]}, ValueError, "^machine_names: 'a' occurs twice$"),
         ({"decimals": 10}, ValueError, "decimals must be from .*, not 10"),
         ({"decimals": 1, "unit": "h:mm"}, ValueError, "decimals must be 0, not 1: times with the unit 'h:mm' are "),
         ({"seed": 2**32}, ValueError, "seed must be from .*, not 4294967296"),
-        *(({"job_names": names}, TypeError, "job_names") for names in ("abc", [1, 2, 3]))],
+        ({"job_names": "abc"}, TypeError, "^job_names must be a list of names, not 'abc'$"),
+        ({"job_names": ["a", 1, "b"]}, TypeError, "^job_names: 1 at place 1 isn't a str$")],
 }
 
 
