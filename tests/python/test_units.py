@@ -5,6 +5,7 @@ import json
 import os
 import pathlib
 import re
+import subprocess
 import types
 import zipfile
 from itertools import pairwise
@@ -18,6 +19,7 @@ from pfs import _cli, _drawing, _gantt, _library, _tables, _workbooks
 from pfs._calendar import DAYS
 from pfs._commands import words
 from pfs._names import seconds_in
+from pfs._version import VERSION
 from pfs.experiments import ExperimentError, plan, run, stage
 from pfs.experiments.__main__ import command_line
 from pfs.web.__main__ import words as web_words
@@ -67,6 +69,28 @@ def test_the_help_has_no_word_that_is_nowhere_else() -> None:
     shown = " ".join(parser.format_help().split())
     assert [each for each in commands.values() if each.description not in shown or each.description[-1] != "."] == []
     assert [parser.parse_known_args([name, "p", "c", "--ret"])[1] for name in ("run", "slurm")] == [["--ret"]] * 2
+
+
+def test_the_version_of_a_checkout_names_the_commit(tmp_path: pathlib.Path, monkeypatch: pytest.MonkeyPatch) -> None:
+    module = tmp_path / "python" / "src" / "pfs" / "_cli.py"
+    module.parent.mkdir(parents=True)
+    module.write_text("")
+    monkeypatch.setattr(_cli, "__file__", str(module))
+    assert _cli.version() == VERSION
+
+    def git(*words: str) -> str:
+        return subprocess.run(["git", "-C", tmp_path, "-c", "user.name=a", "-c", "user.email=a@b", *words], check=True,
+                              capture_output=True, text=True).stdout.strip()
+
+    git("init", "-q")
+    git("add", "-A")
+    git("commit", "-qm", "one")
+    git("tag", "v9")
+    assert _cli.version() == f"{VERSION}, commit {git('rev-parse', '--short', 'HEAD')}"
+    module.write_text("# changed")
+    assert _cli.version().endswith(" with changes")
+    monkeypatch.setenv("PATH", "")
+    assert _cli.version() == VERSION
 
 
 @pytest.mark.parametrize(("program", "said"), [
