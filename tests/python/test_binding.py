@@ -22,6 +22,7 @@ import numpy as np
 import pfs
 import pytest
 from pfs import _library
+from pfs._faults import INSTANCE_FAULTS
 from support import plainly
 from support.tools import TOP
 
@@ -101,6 +102,10 @@ def test_the_numbers_limits_and_functions_are_those_of_the_header() -> None:
                re.findall(r"^#define PFS_(\w+) (?:UINT64_C\()?(\d+)\b", text, re.MULTILINE)}
     own = {name: value for name, value in vars(_library).items() if isinstance(value, int) and name in defined}
     assert len(own) > 12 and own == {name: defined[name] for name in own}
+    errors = [number for number in own.values() if isinstance(_library.error_of(number), MemoryError)]
+    assert errors == [defined["MEMORY"]]
+    names = {number: name.replace("_", " ").lower() for name, number in defined.items()}
+    assert {number: name for number, (name, _) in INSTANCE_FAULTS.items()} == {at: names[at] for at in range(20, 29)}
     assert _library.LAYOUTS == {"taillard": defined["TAILLARD"], "orlib": defined["ORLIB"]}
     assert (_library.MOST_NOTE, _library.MOST_SEED) == (2**32 - 1, 2**64 - 1)
     version = re.search(r'^#define PFS_VERSION "(.*)"$', text, re.MULTILINE)

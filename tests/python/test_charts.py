@@ -37,6 +37,7 @@ def test_each_ending(tmp_path: pathlib.Path, ending: str) -> None:
     assert first.read_bytes().startswith(BEGINNINGS[ending]) and (figure is None) == (ending == "html")
     named().plot(str(again), critical=True, bound=True)
     assert hash(again.read_bytes()) == hash(first.read_bytes()), "a chart that is drawn again has other bytes"
+    assert ending != "pdf" or (b"/FontFile2" in first.read_bytes() and b"/Type3" not in first.read_bytes()), "fonts"
 
 
 def test_the_picture_has_the_names() -> None:

@@ -188,13 +188,15 @@ def test_a_state_is_for_the_options_of_its_search(folder: pathlib.Path, before: 
     ([*LONG, "--start", "/dev/zero"], "pfs: order file too long\n"),
     *(([*LONG, "--state", path], f"pfs: {path}: not the state of a search: longer than 67,108,864 bytes\n")
       for path in ("/dev/full", "/dev/zero", "long")),
-])
+    *((["pfs._gantt", path, "picture.svg"], "pfs-gantt: not a time table: longer than 67,108,864 bytes\n")
+      for path in ("/dev/zero", "long"))])
 def test_files_without_end(folder: pathlib.Path, words: list[str], error: str) -> None:
     """Less memory is taken than the file would need."""
     with open(folder / "long", "wb") as file:
         file.truncate(67_108_865)
-    child = subprocess.run(["prlimit", "--as=4000000000", sys.executable, "-m", "pfs", *words], cwd=folder,
-                           env=environment(), capture_output=True, text=True, timeout=60)
+    words = words if words[0] == "pfs._gantt" else ["pfs", *words]
+    child = subprocess.run(["prlimit", "--as=4000000000", sys.executable, "-m", *words], cwd=folder, env=environment(),
+                           capture_output=True, text=True, timeout=60)
     assert (child.returncode, child.stdout, child.stderr) == (2, "", error)
     assert os.path.getsize(folder / "long") == 67_108_865
 
@@ -217,14 +219,14 @@ def test_two_searches_with_one_state(folder: pathlib.Path) -> None:
 
 
 def test_a_state_has_one_lock_whatever_link_leads_to_it(tmp_path: pathlib.Path) -> None:
-    shop = pfs.generate(5, 2, 1)
+    shop, before = pfs.generate(5, 2, 1), os.listdir("/proc/self/fd")
     (tmp_path / "link").symlink_to("state")
     search = _search.Search(shop, None, 0, None, 0, 0)
     with _state.State(str(tmp_path / "state"), shop, search):
         with pytest.raises(_state.StateInUse, match="link: another search is using this state"), \
                 _state.State(str(tmp_path / "link"), shop, search):
             raise AssertionError
-    assert sorted(os.listdir(tmp_path)) == ["link"]
+    assert sorted(os.listdir(tmp_path)) == ["link"] and os.listdir("/proc/self/fd") == before
 
 
 def test_a_lock_whose_file_another_search_removes_is_taken_again(folder: pathlib.Path,

@@ -320,7 +320,7 @@ RESULTS = [b"\xff\n", b'1,"\n', b"1,\0\n", b"o\n1,x,y,z,t,ok\n", b"1,1,1,1,1.000
            b"o\n1,1,1,1,1.000000,o", b"o\n1,1,1,1,1.000000,ok,12", b"o\n1,1,1,1,1.000000,ok,,,,\n",
            b"o\n1,1,1,1,1.0000000,ok\n", b"o\n1,%b,1,1,1.000000,ok\n" % (b"1" * 19)]
 # Files of results, each after its length.
-FILES = [None, b"", b"2", b"x\n", b"\xff\n", b"99\no\n1,1,1,1,1.000000,ok\n",
+FILES = [b"", b"2", b"x\n", b"\xff\n", b"99\no\n1,1,1,1,1.000000,ok\n",
          *(b"%d\n%b" % (len(data), data) for data in RESULTS)]
 PLANS = [b"{", b"[]", b'{"places": 1}', b"[" * 100_000, b'{"layout": "\xff"}', b'{"places": {}, "runs": []}']
 
@@ -359,11 +359,12 @@ def test_what_is_gone_has_not_changed(made: Experiment, monkeypatch: pytest.Monk
 def test_a_damaged_result_is_made_again_and_a_damaged_plan_is_reported(made: Experiment) -> None:
     """On one line; so is a folder without a program."""
     (made.runs / "joblog").write_bytes(b"\xff\n1\t2\n")
+    path = max((made.runs / "results").glob("*-1"), key=lambda path: path.stat().st_mtime_ns)
     for data in FILES:
-        path = max((made.runs / "results").glob("*-1"), key=lambda path: path.stat().st_mtime_ns)
-        path.unlink() if data is None else path.write_bytes(data)
-        assert made.run() == ended(6), f"{data!r} is taken as it is"
-        assert made.rows() == made.wanted(rounds=(10,)), data
+        path.write_bytes(data)
+        assert len([*run.results_of(made.runs)]) == 5, f"{data!r} is taken as it is"
+    assert made.run() == ended(6) and made.rows() == made.wanted(rounds=(10,))
+    path.unlink()
     with open(path, "w") as earlier:  # a run that continues after its start was killed
         assert made.run() == ended(6)
         earlier.write("torn")
@@ -547,25 +548,12 @@ def test_a_search_by_time_continues_with_another_seed(libpfs: Library, monkeypat
 
 # Other programs
 
-# What a program does for each seed, and the status of its run. $line has the jobs in the order of their numbers. The
-# first one changes the copy of the instance that it gets.
+# What a program does for each seed, and the status of its run. $line has the jobs in the order of their numbers.
 OTHERS = [
-    ("""stat -c '%a %n' "$1" > ../../../copy; chmod 644 "$1"; echo 1 > "$1"; echo "$line" """, "ok"),
-    ('echo "$line"', "ok"), (r"printf 'order 20\n%s\nmakespan 1448\n' " '"$line"', "ok"),
-    ("kill -SEGV $$", "command: signal 11"),
-    ("echo 'Traceback: something' >&2; exit 3", "command: exit 3, Traceback: something"),
-    ("echo 'the best order is 3 2 1'", "command: no order printed: 'the best order is 3 2 1'"),
-    (":", "command: nothing printed"), ("echo '1 1 1'", "check: exit 2, pfs: order file job repeated at place 2"),
-    ("while :; do :; done & while :; do :; done",
-     r"command: took too long: \d+\.\d\d s of processor time instead of 0.5 s"),
-    ('yes "$line"', "command: more than 1,048,576 bytes printed"),
-    ('test "$4 $5 $6" = "a 20 5" && echo "$line" | sed "s/ /, /g; s/$/,/"', "ok"),
-    ("echo '2 0 1'", "command: job 0: jobs count from 1"),
+    ('test "$3 $4 $5 $6" = "0.5 a 20 5" && echo "$line"', "ok"),
+    (r"printf 'order 20\n%s\nmakespan 1448\n' " '"$line"', "ok"), ("kill -SEGV $$", "command: signal 11"),
     (r"printf 'order 20\n%s\nmakespan 1\n' " '"$line"', "check: exit 1, wrong makespan, stated 1, computed 1448"),
-    (r'''echo "π = (J$line)" | sed 's/ \([0-9]\)/ J\1/g' ''', "ok"), ('echo "$line" | tr " " -', "ok"),
-    ("echo '2 -1 3'", "command: no order printed: '2 -1 3'"),
-    (r"printf '1%900000s\n' 2", "check: exit 1, wrong size, .*"),
-]
+    (r"printf '1%900000s\n' 2", "check: exit 1, wrong size, .*")]
 PROGRAM = "line=$(seq -s ' ' 20)\ncase $2 in\n" + "".join(
     f"{seed}) {line} ;;\n" for seed, (line, _) in enumerate(OTHERS, 1)) + "esac"
 OTHER = f"""instances = ["shops/a"]
@@ -586,21 +574,17 @@ def with_other(experiment: Experiment, plan: str, program: str) -> Experiment:
 
 
 def test_another_program_is_run_and_audited(experiment: Experiment) -> None:
-    """An order file, or the jobs on one line. A run that crashes, prints no order, states a wrong makespan or takes too
-    long has failed, and isn't made again. Ten kinds of errors are reported. The instance is a copy that is read-only,
-    and that is gone after the run: no program changes the one that audits it."""
+    """An order file, or the jobs on one line. A run that crashes or states a wrong makespan has failed, and isn't made
+    again."""
     got = with_other(experiment, OTHER, PROGRAM).run()
-    lines = got.stderr.splitlines(keepends=True)
-    assert len(lines) == 12 and got == ended(17, 11, 0, "".join(lines[:10]) + "1 more kinds of errors\n")
+    assert got.stderr.count("\n") == 4 and got == ended(5, 3, 0, got.stderr.rpartition("out.csv:")[0])
     rows = experiment.columns("seed", "status", "method", "time_factor", "rounds", "take", "passes", "cells")
-    assert [row[0] for row in rows] == [str(seed) for seed in range(1, 18)]
+    assert [row[0] for row in rows] == [*"12345"]
     assert [(row[1], wanted) for row, (_, wanted) in zip(rows, OTHERS) if not re.fullmatch(wanted, row[1])] == []
     assert {row[2:] for row in rows} == {("solve", "10", "", "", "", "")}
-    assert experiment.script("check", "out.csv") == Done(0, "out.csv: 6 orders audited, 0 of them wrong\n", "")
+    assert experiment.script("check", "out.csv") == Done(0, "out.csv: 2 orders audited, 0 of them wrong\n", "")
     makespans = {row for row in experiment.columns("status", "makespan", "bound") if row[0] == "ok"}
     assert makespans == {("ok", "1448", "1232")}, "the makespan of the order by numbers"
-    mode, _, copy = (experiment.folder / "copy").read_text().strip().partition(" ")
-    assert (mode, os.path.exists(copy)) == ("444", False), "the mode of the copy, and whether it stays"
     before = experiment.written()
     assert experiment.run().status == 1
     assert experiment.written() == before, "runs that were made again"
@@ -712,27 +696,7 @@ def test_a_run_has_the_orders_of_shorter_ones(experiment: Experiment, stated: St
     assert len(experiment.started()) == 5
 
 
-def test_an_order_on_the_way_that_is_wrong_or_late_fails(experiment: Experiment, stated: Stated) -> None:
-    """A wrong makespan, also of a line whose run then finds a better order, and too many. The last order may be printed
-    without its makespan, and be longer. A line that says more isn't an order."""
-    wrong = stated[0].replace("1448", "1447")
-    texts = {"wrong": (wrong, 2, "check: exit 1, wrong makespan, stated 1447, computed 1448"),
-             "longer": ("\n".join([stated[1], stated[0].split(" ", 2)[2]]), 0, "ok"),
-             "many": ("\n".join([stated[0]] * 1001), 2, "command: more than 1,000 makespans printed"),
-             "most": ("\n".join([stated[0]] * 999), 0, "ok"),
-             "words": (f"the makespan 1448 {stated[0]}", 2, "command: no order printed: 'the makespan 1448"),
-             "comma": (stated[0].replace(" ", ", ").replace("n, ", "n "), 0, "ok")}
-    for name, (text, failed, status) in texts.items():
-        got = walk(experiment, [(0, text), (0, stated[2] if failed else "")], [10, 20], csv_name=f"{name}.csv")
-        assert got.status == (1 if failed else 0), (name, got)
-        rows = experiment.columns("time_factor", "status", csv_name=f"{name}.csv")
-        assert all(row[1].startswith(status) for row in rows) and len(rows) == 2, (name, rows)
-    assert [*experiment.columns("makespan", csv_name="longer.csv")] == [(stated[1].split()[1],), ("1448",)]
-    assert walk(experiment, [(0.7, stated[0])], [10, 20]).status == 1
-    assert experiment.columns("status") == [("command: no order with its makespan printed in 0.5 s",), ("ok",)]
-
-
-@given(strategies.lists(strategies.sampled_from([b"makespan 7 1 2", b" makespan 8, 2 1 ", b"makespan 9", b"1 2", b""])),
+@given(strategies.lists(strategies.sampled_from([b"makespan 7 1 2", b" makespan 8, 2 1 ", b"a makespan 7 1", b""])),
        strategies.lists(strategies.integers(0, 60)))
 def test_lines_are_taken_from_any_parts(lines: list[bytes], cuts: list[int]) -> None:
     """Those with a makespan and an order are points, and the others are the output."""
@@ -821,13 +785,15 @@ LINES = [
     ("0.2", f"({SPIN} &); sleep 1000", r"took too long: [01]\.\d\d s of processor time instead of 0.2 s"),
     ("0.05", "for each in $(seq 200); do (for at in $(seq 30000); do :; done); done; echo 3", "took too long: .*"),
     ("0.01", "python3 -c 'import time\nwhile time.process_time() < 0.3: pass'; printf '4\\377'", "4\ufffd 0"),
-    ("9", "kill -9 $$", "signal 9"), ("9", "printf 'first\\n a  \\377 ' >&2; exit 3", "exit 3, a \ufffd"),
+    ("9", "kill -9 $$", "signal 9"),
+    ("9", "yes | head -c 3000000 >&2; printf 'first\\n a  \\377 ' >&2; exit 3", "exit 3, a \ufffd"),
     ("9", "printf '%0999d b\n' 0 >&2; exit 3", "exit 3, 0{200}"),
     ("9", "printf 'a%999s' b >&2; exit 3", "exit 3, a b"), ("9", "printf 'a%1000s' b >&2; exit 3", "exit 3, b"),
     ("5", "ulimit -t; ulimit -Ht", "8\n8 0"), ("0.4", "ulimit -t", "2 0"), ("null", "ulimit -t", r"(unlimited|\d+) 0"),
-    ("9", "cat; echo 5", "5 0"), ("9", "kill -9 0", "signal 9"), ("9", ["./none"], "No such file or directory"),
-    ("9", ["\ud800"], ".* surrogates not allowed"),
+    ("9", "cat; echo 5", "5 0"), ("9", "kill -9 0", "signal 9"),
+    ("9", ["./none"], "No such file or directory"), ("9", ["\ud800"], ".* surrogates not allowed"),
     ("9", "head -c 2000000 /dev/zero; sleep 2; touch late", "more than 1,048,576 bytes printed"),
+    ("9", "yes makespan 7 1 | head -n 1001", "more than 1,000 makespans printed"),
 ]
 
 

@@ -272,7 +272,7 @@ def test_all_blocks_up_to_the_limit() -> None:
     block = b"1 1\n0 7\n"
     spaces = 67_108_864 - 2 * len(block)
     assert len(pfs.read_all(io.BytesIO(block + b" " * spaces + block), "orlib")) == 2
-    with pytest.raises(pfs.FileFault, match="input too long"):
+    with pytest.raises(pfs.FileFault, match="^input too long$"):
         pfs.read_all(io.BytesIO(block + b" " * (spaces + 1) + block), "orlib")
     with pytest.raises(pfs.FileFault, match="input too long"):
         pfs.read_all(io.BytesIO(block + b" " * spaces + block + b"title\n"), "orlib")

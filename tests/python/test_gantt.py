@@ -487,20 +487,6 @@ def test_the_greatest_table_is_drawn_soon_and_small(ending: str, scripts: pathli
 # Files
 
 @pytest.mark.parametrize("ending", BEGINNINGS)
-def test_a_kind_of_picture_is_the_same_each_time(ending: str, scripts: pathlib.Path, folder: pathlib.Path) -> None:
-    """The second one is drawn by a process whose sets and hashes differ."""
-    words = ["--critical", "table", f"picture.{ending}"]
-    assert gantt(folder, *words) == Done(0, "", "")
-    texts = [(folder / f"picture.{ending}").read_bytes()]
-    assert run_tool([scripts / "pfs-gantt", *words], folder) == Done(0, "", "")
-    texts.append((folder / f"picture.{ending}").read_bytes())
-    assert texts[0].startswith(BEGINNINGS[ending])
-    assert ending != "pdf" or (b"/FontFile2" in texts[0] and b"/Type3" not in texts[0]), "the fonts are TrueType"
-    assert [hash(texts[0]), len(texts[0])] == [hash(texts[1]), len(texts[1])], "the second picture has other bytes"
-    assert sorted(path.name for path in folder.iterdir()) == [f"picture.{ending}", "table"]
-
-
-@pytest.mark.parametrize("ending", BEGINNINGS)
 def test_a_full_disk_keeps_the_old_picture(scripts: pathlib.Path, folder: pathlib.Path, matplotlib: None,
                                            ending: str) -> None:
     (folder / "table").write_text(THREE)
@@ -527,14 +513,6 @@ def test_a_missing_module_is_named_with_its_package(line: str, what: str, module
                    env=dict(os.environ, PYTHONPATH=str(folder / "without"), PYTHONDONTWRITEBYTECODE="1"))
     assert got == Done(4, "", f"{what} needs {module} (Debian: python3-{module}; pip install 'pfs[charts]')\n")
     assert not (folder / "made.svg").exists()
-
-
-@pytest.mark.parametrize("path", ["/dev/zero", "long"])
-def test_a_table_without_end(scripts: pathlib.Path, folder: pathlib.Path, matplotlib: None, path: str) -> None:
-    with open(folder / "long", "wb") as file:
-        file.truncate(67_108_865)
-    got = run_tool([tool("prlimit"), "--as=4000000000", scripts / "pfs-gantt", path, "picture.svg"], folder)
-    assert got == Done(2, "", "pfs-gantt: not a time table: longer than 67,108,864 bytes\n")
 
 
 @pytest.mark.parametrize(("text", "said"), [

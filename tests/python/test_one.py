@@ -152,7 +152,8 @@ def test_a_command_gets_the_values_of_its_run(copies: pathlib.Path, monkeypatch:
 
 def test_a_run_has_what_shorter_ones_had_found_by_their_times(monkeypatch: pytest.MonkeyPatch) -> None:
     """If it fails they do too. A run that fails at its audit has its order."""
-    found = Found("c", "", 2.0, left=1, points=[Point(0.5, 12, "a"), Point(1.0, 11, "b"), Point(1.0000001, 10, "d")])
+    points = [Point(0.5, 12, "a"), Point(0.7, 12, "b"), Point(1.0, 11, "b"), Point(1.0000001, 10, "d")]
+    found = Found("c", "", 2.0, left=1, points=points)
     monkeypatch.setattr(one, "by_command", mock.Mock(side_effect=[found, found, Failed("no"), OSError(28, "full")]))
     monkeypatch.setattr(one, "audit", mock.Mock(side_effect=[("9", "8"), Failed("wrong")]))
     others = [RUN._replace(number=limit, limit=limit) for limit in ("3", "1.5", "0.5", "0.4")]

@@ -6,7 +6,9 @@ import pickle
 import signal
 import threading
 import time
+import types
 from typing import Any
+from unittest import mock
 
 import numpy as np
 import pfs
@@ -114,9 +116,25 @@ def test_it_ends_by_its_limit(monkeypatch: pytest.MonkeyPatch) -> None:
 
 
 @pytest.mark.parametrize(("took", "left", "due"), [
-    (1, 6.1, 20), (1, 5.9, 59), (1, 1.5, 15), (1, 0.9, 0), (1, -1, 0), (0, 1, 20)])
+    (1, 6, 20), (1, 5.9, 59), (1, 1.5, 15), (1, 1, 0), (1, -1, 0), (0, 1, 20)])
 def test_the_nodes_of_the_next_call(took: float, left: float, due: int) -> None:
     assert _proof.Proof.next(10, took, left) == due
+
+
+def test_a_call_that_does_not_end_is_left_soon_after_the_limit(monkeypatch: pytest.MonkeyPatch) -> None:
+    """Only waits for it move the clock. Without time there is none."""
+    now, calls, proof = [8.0], list[mock.Mock](), _proof.Proof(pfs.taillard(HARD), pfs.taillard(HARD).neh())
+
+    def call(*_: Any) -> mock.Mock:
+        calls.append(mock.Mock(is_alive=lambda: True, join=lambda seconds: now.append(now[-1] + seconds)))
+        return calls[-1]
+
+    monkeypatch.setattr(_proof, "time", types.SimpleNamespace(monotonic=lambda: now[-1]))
+    monkeypatch.setattr(_proof, "Call", call)
+    for seconds, most in ((0, 0), (1, 1.2)):
+        begun = now[-1]
+        proof.run(seconds, lambda: not begun <= now[-1] < begun + 9)
+        assert seconds <= now[-1] - begun <= most and len(calls) == seconds and len(now) < 99
 
 
 def test_an_event_ends_it_and_one_that_is_set_before_it_begins() -> None:
@@ -195,8 +213,9 @@ def test_the_greatest_bound_is_kept() -> None:
     """A call from a shorter order may prove less than one before it."""
     shop = pfs.Instance([[3, 2], [2, 5], [4, 1]])
     proof = _proof.Proof(shop, shop.solve(0, start=[2, 1, 0]))
-    for bound, makespan in ((10, 12), (9, 10)):
+    for bound, makespan, order in ((10, 12, [2, 1, 0]), (9, 10, [1, 0, 2]), (9, 10, [0, 1, 2])):
         call = _proof.Call(shop, bytes(12), 1)
-        call.order[:], call.makespan.value, call.bound.value = [1, 0, 2], makespan, bound
+        call.order[:], call.makespan.value, call.bound.value = order, makespan, bound
         proof.keep(call)
     assert (proof.best.makespan, proof.best.bound, proof.best.order.tolist()) == (10, 10, [1, 0, 2])
+    assert proof.best.order.dtype == np.int64

@@ -104,9 +104,13 @@ def test_a_report_has_its_table_and_its_plots(ending: str, begin: bytes, report:
     assert sorted(os.listdir(folder / "none")) == ["table.csv", "table.md"]
 
 
-BAD = [("20,5,0", "20,5,0.5"), ("10.0000", "-101"), ("10.0000", "nan"), ("10.0000", "x"), ("ok\n", "ok,a,b,c,d\n"),
-       (",110,", f",{'1' * 320},"), ("0.001000", "inf"), ("0.001000", "1_0"),
-       ("0.001000", "\N{ARABIC-INDIC DIGIT ONE}"), (REPORTED[len(HEAD):], "")]
+GAP, SECONDS = "the column gap_percent, from -100 to 1e+20", "the column seconds, from 0 to 1e+12"
+BAD = [("20,5,0", "20,5,0.5", "'0.5' is not a number of the column rounds, from 0 to 1e+09"),
+       *(("10.0000", each, f"{each!r} is not a number of {GAP}") for each in ("-101", "nan", "x", "1.1e20")),
+       ("ok\n", "ok,a,b,c,d\n", "a row has more cells than the first line"), (REPORTED[len(HEAD):], "", "no rows"),
+       (",110,", f",{'1' * 320},", f"'{'1' * 40}' is not a number of the column makespan, from 0 to 1e+18"),
+       *(("0.001000", each, f"{each!r} is not a number of {SECONDS}")
+         for each in ("inf", "1_0", "-1", "\N{ARABIC-INDIC DIGIT ONE}"))]
 # The status, the arguments, and what is said.
 WORDS = [(4, "none.csv report", "none.csv: "), (3, "--width 0 out.csv report", "'0' is not a number of inches"),
          (3, "--dpi 25.5 out.csv report", "'25.5' is not a whole number from 20 to 1,200"),
@@ -123,16 +127,16 @@ WORDS = [(4, "none.csv report", "none.csv: "), (3, "--width 0 out.csv report", "
 
 
 @pytest.mark.parametrize(("text", "status", "words", "said"), [
-    *((REPORTED.replace(*change), 2, "out.csv report", "out.csv: ") for change in BAD),
+    *((REPORTED.replace(*change), 2, "out.csv report", f"report: out.csv: {said}\n") for *change, said in BAD),
     *((REPORTED, *each) for each in WORDS)],
-    ids=[*(f"{new[:9]!r}" for _, new in BAD), *(words for _, words, _ in WORDS)])
+    ids=[*(f"{new[:9]!r}" for _, new, _ in BAD), *(words for _, words, _ in WORDS)])
 def test_what_is_refused_is_said_on_one_line_and_nothing_is_left(text: str, status: int, words: str, said: str,
                                                                  report: Reported, folder: pathlib.Path) -> None:
     got = report(words=words, out=text, other="name,length\na,1\n", means="jobs,machines,rpd\n2,2,1\n",
                  two="instance,makespan\na,50\na,51\n", ranks="instance,makespan,makespan\na,50,51\n",
                  three="instance,makespan\na,1.000\n")
     assert (got.status, got.stdout) == (status, "")
-    assert re.fullmatch(f"pfs-experiments report: [^\n]*{re.escape(said)}[^\n]*\n", got.stderr), got.stderr
+    assert re.fullmatch("pfs-experiments report: [^\n]*\n", got.stderr) and said in got.stderr, got.stderr
     assert sorted(os.listdir(folder)) == ["means.csv", "other.csv", "out.csv", "ranks.csv", "three.csv",
                                           "two.csv"]
 
@@ -247,8 +251,8 @@ def test_a_makespan_below_the_bound_is_an_error(text: str, report: Reported) -> 
                               f"{int(makespan) + 1}: no order has it\n")
 
 
-def test_orders_are_audited_where_the_instance_is_at_hand(experiment: Experiment,
-                                                          with_library: dict[str, str]) -> None:
+def test_orders_are_audited_where_the_instance_is_at_hand(experiment: Experiment, with_library: dict[str, str],
+                                                          report: Reported) -> None:
     """As one of Taillard's, or next to a CSV as long as the folder there is whole. The makespan of the order 1 2 3 ..
     of ta001 is 1448."""
     folder, order = experiment.folder, " ".join(map(str, range(1, 21)))
@@ -256,12 +260,11 @@ def test_orders_are_audited_where_the_instance_is_at_hand(experiment: Experiment
              "missing", "1449,3 1 2": "wrong size: 3 jobs, but the instance has 20",
              f"1448.5,{order}": "the makespan of an order is whole"}
 
-    def tool(*words: str) -> Done:
-        return run_tool([experiment.scripts / "pfs-experiments", *words], folder, env=with_library)
-
-    def report_of(text: str, name: str = "out.csv") -> Done:
+    def report_of(text: str, *names: str) -> Done:
+        name, *more = names or ("out.csv",)
         (folder / name).write_text(text if "status" in text else f"instance,seed,makespan,order\n{text}")
-        return tool("report", name, "report")
+        with mock.patch.object(typed, "plot"):
+            return report(words=" ".join([name, *more, "report"]))
 
     text = f"ta001,1,1448,{order}\nta001,2,1300,\ni,1,5,1 2\nta002,1,1400,gone/order\nta003,1,,1 2\n"
     assert report_of(text).status == 0
@@ -272,7 +275,8 @@ def test_orders_are_audited_where_the_instance_is_at_hand(experiment: Experiment
     assert csv_rows(folder / "report" / "best.csv") == [dict(instance="ta001", method="out", makespan="1448",
                                                              order=order)], "the best order of each instance, once"
     (folder / "report" / "best.csv").rename(folder / "\udcff.csv")
-    assert tool("audit", "\udcff.csv").stdout == "\\udcff.csv: 1 orders audited, 1 valid (0 optimal), 0 wrong\n"
+    got = run_tool([experiment.scripts / "pfs-experiments", "audit", "\udcff.csv"], folder, env=with_library)
+    assert got.stdout == "\\udcff.csv: 1 orders audited, 1 valid (0 optimal), 0 wrong\n"
     unclear = f"ta001,1,1448,{order}\nta002,1,1400,{' '.join(map(str, range(20)))}\n"
     assert "1 orders of out.csv count jobs from 0 and as many from 1" in report_of(unclear).stderr
     for text, why in wrong.items():
@@ -282,7 +286,7 @@ def test_orders_are_audited_where_the_instance_is_at_hand(experiment: Experiment
     text, (row,) = (folder / "runs.csv").read_text(), csv_rows(folder / "runs.csv")
     (folder / "\udcff.csv").write_text(text.replace(row["order"], (folder / row["order"]).read_text().split("\n")[1]))
     assert report_of(text, "runs.csv").status == 0 and column(folder, "audited") == ["1"]
-    assert tool("report", "runs.csv", "\udcff.csv", "report").status == 0 and column(folder, "audited") == ["1", "1"]
+    assert report_of(text, "runs.csv", "\udcff.csv").status == 0 and column(folder, "audited") == ["1", "1"]
     more = int(row["makespan"]) + 1
     assert report_of(text.replace(f",{row['makespan']},", f",{more},", 1), "runs.csv").stderr == (
         f"pfs-experiments report: runs.csv: line 2, shops/b: wrong makespan: states {more}, takes {row['makespan']}\n")
@@ -542,11 +546,11 @@ def test_lines_bands_scale_and_colours_of_the_plots_by_rounds(done: Callable[[st
     fills = [to_hex(line.get_color()) for line in lines]
     assert (len(fills), fills[0], fills[-1]) == (5, "#440154", "#7ad151"), "of viridis"
     assert min(map(least_difference, fills, fills[1:])) > 10, fills
-    several = panels("a,20,5,0,2,0,1,1,1,1,30.0,1000,0.001000,ok\n" + "".join(
+    several = panels("a,20,5,0,2,0,1,1,1,1,30.0,1,0.1,ok\nb,20,5,0,4,0,1,1,1,1,10.0,1,0.1,ok\n" + "".join(
         f"a,20,5,{rounds},{take},{passes},1,1,1,1,{gap:.4f},1000,0.001000,ok\n"
         for (take, passes), gaps in GAPS.items() for rounds, gap in zip((5, 10), gaps)))[:-1]
     assert {axis.get_title(): lines_of(axis)["20×5"] for axis in several} == {
-        f"out, take {take}, passes {passes}": [(0, 30.0), (5, first), (10, second)]
+        f"out, take {take}, passes {passes}": [(0, 20.0), (5, first), (10, second)]
         for (take, passes), (first, second) in GAPS.items()}
     assert [axis.get_subplotspec().colspan.start for axis in several] == [0, 1] * 2
 
@@ -764,6 +768,22 @@ def test_differences_are_paired_by_instance_and_seed_in_a_panel_for_each_size(do
     labels = {label.get_text() for axis in figure.axes for label in axis.get_yticklabels()}
     assert labels == {"n, 100 rounds", "n, 200 rounds"}
     assert reports.differences(done("instance,makespan,method,reference\na,103,m,100\n"), None) is None
+
+
+def test_the_labels_of_differences_have_room(done: Callable[[str], Any]) -> None:
+    """Next to panels in at most three columns, which take half of the width or more. Nothing touches or is cut."""
+    text = "instance,makespan,method,reference,jobs,machines\n" + "".join(
+        f"i{jobs},{100 + at},{at} the method of somebody with a long name,100,{jobs},5\n"
+        for jobs in (20, 50, 100, 200) for at in range(4))
+    for width, columns in ((None, 3), (5.9, 2), (3.9, 1)):
+        figure = reports.differences(done(text), width)
+        figure.draw_without_rendering()
+        axes, inch = [axis for axis in figure.axes if axis.axison], figure.dpi
+        assert {axis.get_subplotspec().colspan.start for axis in axes} == {*range(columns)} and len(axes) == 4
+        labels = [label.get_window_extent() for label in axes[0].get_yticklabels()]
+        assert all(0 < upper.y0 - lower.y1 < 0.5 * inch for lower, upper in itertools.pairwise(labels)), width
+        panels = [axis.get_window_extent() for axis in axes]
+        assert sum(box.width for box in panels[:columns]) > 0.45 * figure.bbox.width and labels[0].x0 > 0
 
 
 TEXTS = {"gap": "Gap to the bound: mean, and range over the seeds; gap to the lower bound, %; jobs×machines",

@@ -248,6 +248,7 @@ def test_tables_that_are_rejected(tmp_path: pathlib.Path, case: str) -> None:
     with pytest.raises(pfs.TableFault) as fault:
         pfs.read_csv(tmp_path / "file", **dict(*words))
     assert (fault.value.line, fault.value.column, fault.value.text) == (line, column, why)
+    assert (fault.value.name, fault.value.number, fault.value.place) == ("table", 0, line)
     assert bool(fault.value.head) == (line > 1 and column > 1 and case != "a title, and no machines")
     assert len(fault.value.others) == MORE.get(case, 0)
     place = f"cell {'ABCDE'[column - 1]}{line}{f', column {fault.value.head!r}' if fault.value.head else ''}: "
@@ -309,11 +310,12 @@ def test_all_faults_of_a_table_are_reported_at_once(tmp_path: pathlib.Path) -> N
     assert str(fault.value).split("\n")[2] == f"{tmp_path / 'file'}: cell B3, column 'Kunde': 'Meyer' isn't a time: " \
                                               f"{NO_MACHINE} (and 1 more cell of the column)"
     assert str(pickle.loads(pickle.dumps(fault.value))) == str(fault.value)
-    table = "job" + "".join(f",m{at}" for at in range(30)) + "\na" + ",-1" * 30 + "\n"
-    with pytest.raises(pfs.TableFault) as fault:
-        pfs.read_csv(written(tmp_path, table))
-    lines = str(fault.value).split("\n")
-    assert len(fault.value.others) == 29 and len(lines) == 22 and lines[-1].endswith(": and 9 more")
+    for more in (0, 1):
+        with pytest.raises(pfs.TableFault) as fault:
+            pfs.read_csv(written(tmp_path, f"job{',m'.join(map(str, range(22 + more)))}\na{',-1' * (21 + more)}\n"))
+        *lines, last = str(fault.value).split("\n")
+        assert len(fault.value.others) == 20 + more == len(lines)
+        assert last.endswith(": and 1 more" if more else "'-1' isn't a time")
 
 
 def test_half_a_letter_of_utf_16_is_the_only_fault(tmp_path: pathlib.Path) -> None:

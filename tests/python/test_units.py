@@ -5,6 +5,7 @@ import json
 import os
 import pathlib
 import re
+import subprocess
 import types
 import zipfile
 from itertools import pairwise
@@ -18,7 +19,8 @@ from pfs import _cli, _drawing, _gantt, _library, _tables, _workbooks
 from pfs._calendar import DAYS
 from pfs._commands import words
 from pfs._names import seconds_in
-from pfs.experiments import ExperimentError, one, plan, run, stage
+from pfs._version import VERSION
+from pfs.experiments import ExperimentError, plan, run, stage
 from pfs.experiments.__main__ import command_line
 from pfs.web.__main__ import words as web_words
 from support import plainly
@@ -69,6 +71,28 @@ def test_the_help_has_no_word_that_is_nowhere_else() -> None:
     assert [parser.parse_known_args([name, "p", "c", "--ret"])[1] for name in ("run", "slurm")] == [["--ret"]] * 2
 
 
+def test_the_version_of_a_checkout_names_the_commit(tmp_path: pathlib.Path, monkeypatch: pytest.MonkeyPatch) -> None:
+    module = tmp_path / "python" / "src" / "pfs" / "_cli.py"
+    module.parent.mkdir(parents=True)
+    module.write_text("")
+    monkeypatch.setattr(_cli, "__file__", str(module))
+    assert _cli.version() == VERSION
+
+    def git(*words: str) -> str:
+        return subprocess.run(["git", "-C", tmp_path, "-c", "user.name=a", "-c", "user.email=a@b", *words], check=True,
+                              capture_output=True, text=True).stdout.strip()
+
+    git("init", "-q")
+    git("add", "-A")
+    git("commit", "-qm", "one")
+    git("tag", "v9")
+    assert _cli.version() == f"{VERSION}, commit {git('rev-parse', '--short', 'HEAD')}"
+    module.write_text("# changed")
+    assert _cli.version().endswith(" with changes")
+    monkeypatch.setenv("PATH", "")
+    assert _cli.version() == VERSION
+
+
 @pytest.mark.parametrize(("program", "said"), [
     (None, "pfs is not on the path: pass it with --pfs"), ("/etc/passwd", "/etc/passwd is not a program"),
     ("/usr", "/usr is not a program"),
@@ -111,96 +135,6 @@ def test_files_are_the_same_in_each_locale(tmp_path: pathlib.Path) -> None:
 
 
 # Runs of experiments
-
-@pytest.fixture
-def runs(tmp_path: pathlib.Path, monkeypatch: pytest.MonkeyPatch) -> pathlib.Path:
-    """The folder of copies, whose pfs notes its arguments and its input and does what the file `does` says."""
-    monkeypatch.setattr(one, "HERE", str(tmp_path))
-    (tmp_path / "pfs").write_text('#!/bin/sh\necho "$*" > words\ncat > input\n. ./does\n')
-    (tmp_path / "pfs").chmod(0o755)
-    return tmp_path
-
-
-def a_run(**more: str) -> one.Run:
-    return one.Run(*["-"] * len(one.Run._fields))._replace(
-        **{"number": "7", "file": "instances/1", "layout": "orlib", "block": "2", "rounds": "5", "passes": "1",
-           "seed": "3"} | more)
-
-
-@pytest.mark.parametrize(("does", "said"), [
-    ("printf 'b\\377d\\nmore\\n' >&2; exit 3", "solve: exit 3, b\ufffdd"), ("echo out; exit 1", "solve: exit 1, out"),
-    ("exit 9", "solve: exit 9, "), ("kill -9 $$", "solve: signal 9"), ("printf '\\377\\n'", "solve: no cells printed"),
-    ("echo cells 5", "solve: no cells printed"), ("printf 'o\\ncells 5\\nx\\n'", "solve: no cells printed")])
-def test_what_a_search_says_that_fails(runs: pathlib.Path, does: str, said: str) -> None:
-    (runs / "does").write_text(does)
-    with pytest.raises(one.Failed, match=f"^{re.escape(said)}$"):
-        one.by_rounds(a_run())
-
-
-def test_a_search_by_rounds(runs: pathlib.Path) -> None:
-    (runs / "does").write_text("printf 'order 1\\n1\\nmakespan 4\\ncells 12\\n'")
-    for take, more in (("-", ""), ("4", " --take 4")):
-        found = one.by_rounds(a_run(take=take))
-        assert found[:2] == ("order 1\n1\nmakespan 4\n", "12") and 0 <= found.seconds < 5
-        assert (runs / "words").read_text() == (
-            f"solve --rounds 5 --passes 1 --seed 3 --cells{more} --layout orlib --block 2 instances/1\n")
-
-
-@pytest.mark.parametrize(("does", "said"), [
-    ("printf 'valid\\nmakespan 4\\nbound 3\\n'", None), ("printf 'valid\\nmakespan 4\\nbound 3\\noptimal\\n'", None),
-    ("printf 'valid\\nmakespan 4\\nbound 3\\n'; exit 1", "check: exit 1, valid, makespan 4, bound 3"),
-    ("printf 'valid\\nmakespan 4\\nbound 3x\\n'", "check: valid, makespan 4, bound 3x"),
-    ("true", "check: no verdict"), ("echo no >&2; echo valid; exit 2", "check: exit 2, no")])
-def test_a_verdict_is_that_of_pfs(runs: pathlib.Path, does: str, said: str | None) -> None:
-    (runs / "does").write_text(does)
-    if said is None:
-        assert one.audit(a_run(), "order 1\n") == ("4", "3")
-        assert (runs / "words").read_text() == "check --layout orlib --block 2 instances/1 /dev/stdin\n"
-        assert (runs / "input").read_text() == "order 1\n"
-    else:
-        with pytest.raises(one.Failed, match=f"^{re.escape(said)}$"):
-            one.audit(a_run(), "order 1\n")
-
-
-def test_shorter_runs_have_what_was_found_by_then(monkeypatch: pytest.MonkeyPatch) -> None:
-    """At the limit too, and no order that isn't shorter than all before it."""
-    points = [one.Point(0.5, 12, "a"), one.Point(1.0, 12, "b"), one.Point(2.0, 11, "c"), one.Point(2.5, 10, "d")]
-    made = one.Found("e", "", 4.0, left=3, points=points)
-    monkeypatch.setattr(one, "by_command", lambda *_: made)
-    monkeypatch.setattr(one, "audit", lambda _, order: (str({"e": 10}[order]), "8"))
-    others = [a_run(number=str(at), limit=limit) for at, limit in enumerate(("3", "2", "1.5", "0.4", "5"))]
-    assert [*one.results(a_run(), others, ["command"])] == [
-        ("e", ["7", "10", "8", "", "4.000000", "ok", "", "3", "0.500000:12 2.000000:11 2.500000:10"]),
-        ("d", ["0", "10", "8", "", "3.000000", "ok"]), ("c", ["1", "11", "8", "", "2.000000", "ok"]),
-        ("a", ["2", "12", "8", "", "1.500000", "ok"]),
-        ("", ["3", "", "", "", "", "command: no order with its makespan printed in 0.4 s"]),
-        ("d", ["4", "10", "8", "", "4.000000", "ok"])]
-    for error, said in ((one.Failed("no"), "no"), (OSError(2, "gone"), "lost: gone")):
-        monkeypatch.setattr(one, "audit", lambda *_, error=error: (_ for _ in ()).throw(error))
-        assert [*one.results(a_run(), others[:1], ["command"])] == [
-            ("e", ["7", "", "", "", "", said]), ("", ["0", "", "", "", "", said])]
-
-
-def test_the_runs_of_a_process(runs: pathlib.Path, monkeypatch: pytest.MonkeyPatch,
-                               capfdbinary: pytest.CaptureFixture[bytes]) -> None:
-    """Those that are named, each with its method's command, with the length of its result before it; none after what
-    has started it is gone."""
-    lines = ["\t".join(a_run(number=str(at), method=f"m{at}", instance="\u00e4 b")) for at in range(1, 4)]
-    (runs / "runs.tsv").write_text("".join(f"{line}\n" for line in lines))
-    (runs / "commands.json").write_text(json.dumps({"m3": ["c"], "m1": {"x": 1}}))
-    asked, here = list[Any](), [[1], [1], [1], [2]]
-    monkeypatch.setattr(one, "starters", lambda: here.pop(0))
-    monkeypatch.setattr("sys.argv", ["one", "3,1", "2", "1"])
-
-    def results(run: one.Run, others: list[one.Run], command: Any) -> Any:
-        asked.append((run.number, [each.number for each in others], command, run.instance))
-        return [("o\udcff\n", [run.number, 'a"b']), *(("", [each.number]) for each in others)]
-
-    monkeypatch.setattr(one, "results", results)
-    one.main()
-    assert asked == [("3", ["1"], ["c"], "\u00e4 b"), ("2", [], None, "\u00e4 b")]
-    assert capfdbinary.readouterr().out == b'12\no?\n3,"a""b"\n2\n1\n12\no?\n2,"a""b"\n'
-
 
 def test_ten_kinds_of_errors_are_reported(capsys: pytest.CaptureFixture[str]) -> None:
     rows = [{"instance": "i", "seed": str(at), "status": f"{'x' * at} {at}"} for at in range(1, 11)]
@@ -294,8 +228,8 @@ UNITS = {1: "s sec SEC. secs second seconds sek Sekunde sekunden seconde seconde
 def test_words_of_units() -> None:
     for seconds, names in UNITS.items():
         for name in names.split():
-            assert [seconds_in(text) for text in (name, f" {name.upper()} ", f"Zeit in {name}", f"{name}x")] == [
-                seconds, seconds, seconds, None], name
+            texts = name, f" {name.upper()} ", f"Zeit in {name}", f"Zeit in{name}", f"{name}x"
+            assert [*map(seconds_in, texts)] == [seconds, seconds, seconds, None, None], name
 
 
 @pytest.mark.parametrize(("rows", "found"), [

@@ -61,7 +61,12 @@ def test_lists_of_each_make() -> None:
         assert large.makespan(falling) == plainly.makespan(large.times.tolist(), list(range(399, -1, -1)))
 
 
-SHOP = pfs.Instance(TIMES)
+SHOP, NAMED = pfs.Instance(TIMES), pfs.Instance(TIMES, job_names=["table", "chair", "box"])
+NAMES: list[tuple[Any, type[Exception], str]] = [
+    (["chair", "bed", "box"], ValueError, "^(order|start): 'bed' at place 1 isn't the name of a job"),
+    (["chair", 0, "box"], TypeError, "^(order|start): 0 at place 1 isn't a name, but others are"),
+    (["chair", "table", "chair"], ValueError, "job 1 occurs twice, at places 0 and 2"),
+    ([0, "table", "box"], TypeError, "^(order|start) must be whole numbers")]
 INSERTIONS: list[tuple[Any, type[Exception], str]] = [
     (([0, 1], 3), ValueError, "job must be from 0 to 2, not 3"),
     (([0, 1], -1), ValueError, "job must be from .*, not -1"),
@@ -107,6 +112,7 @@ REJECTED: dict[Callable[[Any], object], list[tuple[Any, type[Exception], str]]] 
         (np.array([0, 2**63], dtype=np.uint64), ValueError, "order: 9223372036854775808 at place 1 isn't a job"),
         ([0, 0.5], ValueError, "order: 0.5 at place 1 isn't a whole number"),
         ([0, "1"], TypeError, "order must be whole numbers"),
+        (["table"], TypeError, "^order has names, but the jobs of the instance have none"),
         ([0, None], TypeError, "order: None at place 1 isn't a whole number"),
         ([True, False], TypeError, "order must be whole numbers, not of dtype bool"),
         (np.array([True, False]), TypeError, "order must be whole numbers, not of dtype bool"),
@@ -125,6 +131,7 @@ REJECTED: dict[Callable[[Any], object], list[tuple[Any, type[Exception], str]]] 
         ([0, 1, 2, 0], ValueError, "order has 4 jobs, but"), ([], ValueError, "order has 0 jobs, but"),
         (pfs.Solution([0, 1, 2], 11, 0, 3), ValueError, "^order is an order for 3 machines, but the instance has 2$"),
         ([0, 1, 0], ValueError, "order: job 0 occurs twice, at places 0 and 2")],
+    NAMED.makespan: NAMES, NAMED.schedule: NAMES, lambda start: NAMED.solve(0, start=start): NAMES,
     lambda given: SHOP.places(*given): INSERTIONS, lambda given: SHOP.best_place(*given): INSERTIONS,
     SHOP.makespans: [
         ([0, 1], ValueError, r"orders must have a row for each sequence of jobs, not the shape \(2,\)"),
@@ -183,12 +190,13 @@ REJECTED: dict[Callable[[Any], object], list[tuple[Any, type[Exception], str]]] 
         *((("orlib", block), ValueError, f"block must be from 1 to 1,000, not {block}") for block in (0, 1001))],
     pfs.taillard: [(at, ValueError, f"number must be from 1 to 120, not {at}") for at in (0, 121)],
     lambda words: pfs.Instance(TIMES, **words): [
-        ({"job_names": ["a"]}, ValueError, "has 1 names, but 3 are needed"),
-        ({"machine_names": ["a", "a"]}, ValueError, "'a' occurs twice"),
+        ({"job_names": ["a"]}, ValueError, "^job_names has 1 names, but 3 are needed$"),
+        ({"machine_names": ["a", "a"]}, ValueError, "^machine_names: 'a' occurs twice$"),
         ({"decimals": 10}, ValueError, "decimals must be from .*, not 10"),
         ({"decimals": 1, "unit": "h:mm"}, ValueError, "decimals must be 0, not 1: times with the unit 'h:mm' are "),
         ({"seed": 2**32}, ValueError, "seed must be from .*, not 4294967296"),
-        *(({"job_names": names}, TypeError, "job_names") for names in ("abc", [1, 2, 3]))],
+        ({"job_names": "abc"}, TypeError, "^job_names must be a list of names, not 'abc'$"),
+        ({"job_names": ["a", 1, "b"]}, TypeError, "^job_names: 1 at place 1 isn't a str$")],
 }
 
 

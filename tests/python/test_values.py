@@ -309,21 +309,6 @@ def test_jobs_by_their_names() -> None:
     assert shop.solve(1, hold=["box", "table"]).order.tolist() == [2, 0, 1]
 
 
-@pytest.mark.parametrize(("order", "kind", "why"), [
-    (["chair", "bed", "box"], ValueError, "'bed' at place 1 isn't the name of a job"),
-    (["chair", 0, "box"], TypeError, "^(order|start): 0 at place 1 isn't a name, but others are"),
-    (["chair", "table", "chair"], ValueError, "job 1 occurs twice, at places 0 and 2"),
-    ([0, "table", "box"], TypeError, "(order|start) must be whole numbers")])
-def test_names_that_are_rejected(order: list[Any], kind: type[Exception], why: str) -> None:
-    shop = pfs.Instance([[3, 2], [2, 5], [4, 1]], job_names=["table", "chair", "box"])
-    calls: list[Callable[[Any], Any]] = [shop.makespan, shop.schedule, lambda start: shop.solve(0, start=start)]
-    for call in calls:
-        with pytest.raises(kind, match=why):
-            call(order)
-    with pytest.raises(TypeError, match="order has names, but the jobs of the instance have none"):
-        pfs.Instance([[3]]).makespan(["table"])
-
-
 # Building blocks of search methods: heads and tails, construction and local search
 
 def moved(times: plainly.Table, sequence: list[int], jobs: list[int]) -> list[int]:

@@ -13,7 +13,7 @@ from typing import TYPE_CHECKING, Any
 
 from pfs._atomic import atomic_write
 from pfs._calendar import Calendar, Clock, day_of, text_of
-from pfs._drawing import DPI, IDLE, UNIT, Chart, draw, ink, picture_of
+from pfs._drawing import DPI, IDLE, UNIT, WIDTH, Chart, draw, ink, picture_of
 from pfs._names import CLOCK, shown
 from pfs._optional import optional
 from pfs._validate import BOOLS, checked_int
@@ -56,7 +56,7 @@ def svg_of(schedule: Schedule) -> str | None:
 
 
 def plot(schedule: Schedule, path: str | os.PathLike[str] | None = None, *, critical: bool,
-         bound: bool | int, unit: str | None = None, width: float = 12.0, dpi: int = DPI, title: bool | str = True,
+         bound: bool | int, unit: str | None = None, width: float = WIDTH, dpi: int = DPI, title: bool | str = True,
          ax: Any = None, calendar: Calendar | None = None, language: str | os.PathLike[str] = "en") -> Any:
     """The figure, or, where the path is that of a page, none."""
     shop = schedule.instance

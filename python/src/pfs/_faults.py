@@ -1,7 +1,7 @@
 """Exceptions for invalid files and interrupted searches."""
 from __future__ import annotations
 
-from typing import TYPE_CHECKING, Any
+from typing import TYPE_CHECKING
 
 if TYPE_CHECKING:
     from pfs._solution import Solution
@@ -44,9 +44,8 @@ class Fault(ValueError):
         The line that the program ``pfs`` prints for the fault.
     """
 
-    def __init__(self, path: str, number: int, place: int, *more: Any) -> None:
-        # All arguments, from which a pickled exception is made again.
-        super().__init__(path, number, place, *more)
+    # All arguments are in `args`, from which a pickled exception is made again.
+    def __init__(self, path: str, number: int, place: int) -> None:
         self.path, self.number, self.place = path, number, place
         self.name, text = (INSTANCE_FAULTS | ORDER_FAULTS)[number]
         self.text = "pfs: " + text.format(place)
@@ -70,7 +69,7 @@ class FileFault(Fault):
     """
 
     def __init__(self, path: str, number: int, place: int, line: int, column: int, hint: str) -> None:
-        super().__init__(path, number, place, line, column, hint)
+        super().__init__(path, number, place)
         self.line, self.column, self.hint = line, column, hint
 
     def __str__(self) -> str:
@@ -105,7 +104,6 @@ class TableFault(Fault):
 
     def __init__(self, path: str, line: int, column: int, text: str, head: str = "",
                  others: tuple[TableFault, ...] = ()) -> None:
-        ValueError.__init__(self, path, line, column, text, head, others)
         self.path, self.name, self.number, self.place = path, "table", 0, line
         self.line, self.column, self.text, self.head, self.others = line, column, text, head, others
 
@@ -144,7 +142,6 @@ class Interrupted(KeyboardInterrupt):
     """
 
     def __init__(self, solution: Solution) -> None:
-        super().__init__(solution)
         self.solution = solution
 
     def __str__(self) -> str:
@@ -162,7 +159,6 @@ class InterruptedAll(KeyboardInterrupt):
     """
 
     def __init__(self, found: dict[tuple[int, int], Solution]) -> None:
-        super().__init__(found)
         self.found = found
 
     def __str__(self) -> str:

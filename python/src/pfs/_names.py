@@ -47,11 +47,11 @@ def printable(text: str) -> str:
     return "".join(sign if sign.isprintable() else sign.encode("unicode_escape").decode() for sign in text)
 
 
-def amount(time: int, decimals: int, unit: str = "") -> str:
+def amount(time: int, decimals: int, unit: str) -> str:
     """Return a time with its decimals, or as hours and minutes, as text.
 
-    >>> amount(125, 1), amount(5, 2), amount(-5, 2), amount(7, 0), amount(90, 0, "h:mm")
-    ('12.5', '0.05', '-0.05', '7', '1:30')
+    >>> amount(125, 1, "h"), amount(5, 2, ""), amount(-5, 2, ""), amount(0, 1, ""), amount(90, 0, "h:mm")
+    ('12.5', '0.05', '-0.05', '0.0', '1:30')
     """
     if unit == CLOCK:
         return f"{time // 60}:{time % 60:02}"

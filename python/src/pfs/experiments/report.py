@@ -545,10 +545,10 @@ def differences(shared: pd.DataFrame, width: float | None) -> Figure | None:
         return None
     labels = list(dict.fromkeys(found["setting"].map(shown)))
     titles = list(dict.fromkeys(found["panel"]))
-    width = width or max(6.5, 2 + 1.6 * min(3, len(titles)))
+    width = width or 6.5
     labels_at = {label: at for at, label in enumerate(reversed(labels))}
     lines = [wrapped(label, 0.4 * width) for label in labels_at]
-    columns = min(len(titles), 3, max(1, int(0.6 * width / 1.2)))
+    columns = min(len(titles), 3, int(width / 2))
     rows = -(-len(titles) // columns)
     high = 0.7 + HIGH * sum(text.count("\n") + 1.5 for text in lines)
     figure = Figure(figsize=(width, 0.8 + rows * high), layout="constrained")

@@ -139,7 +139,7 @@ def checked_reference(plan: dict[str, Any], top: str, plan_path: str) -> Referen
     lacking = [name for name in names if reference_for(reference, name) is None]
     if lacking == names:
         raise ExperimentError(f"{plan_path}: the reference {plan['reference']} names none of the instances: it has "
-                              f"{next(iter(reference), 'none')}, and the plan {names[0]}")
+                              f"{next(iter(reference))}, and the plan {names[0]}")
     if lacking:
         print(plain(f"{plan['reference']} lacks {len(lacking)} of {len(names)} instances: {listed(lacking, 5)}"),
               file=sys.stderr)
