@@ -114,8 +114,9 @@ MINUTES = {"packages": 1, "layout, types, scripts and pages": 1, "proofs of the 
 # For each script what it calls, and what it prints, with points in place of times.
 SCRIPTS = {
     "tools/test": (
-        ["tools/setup|test", f"{PYTEST}-m|check", "tools/build|pfs|pfs_c",
-         "make|-s|crates/pfs/out/pfs|lib/out/libpfs.so.1", f"{PYTEST}{COVERED}--cov-report=|--junitxml=out/tests.xml|-m|not check and not calls into out/lines",
+        ["tools/setup|test", f"{PYTEST}-m|check",
+         "tools/build|pfs|pfs_c", "make|-s|crates/pfs/out/pfs|lib/out/libpfs.so.1",
+         f"{PYTEST}{COVERED}--cov-report=|--junitxml=out/tests.xml|-m|not check and not calls into out/lines",
          "tests/mutants.py|--least|75|40"],
         "".join(f"== {number} of 5: {what} (on two processors {minutes} minutes)\n"
                 for number, (what, minutes) in enumerate(MINUTES.items(), 1))
