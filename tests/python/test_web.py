@@ -168,54 +168,44 @@ def test_the_page_asks_for_nothing_from_elsewhere_and_makes_no_html_of_texts() -
 
 # What isn't a request
 
-WRONG: dict[str, tuple[str, Any]] = {
-    "null": ("/api/search", None), "no rows": ("/api/read", {}), "a row of one": ("/api/read", {"rows": [[1]]}),
-    "a row twice": ("/api/read", {"rows": [[1, ["a"]], [1, ["b"]]]}), "line 0": ("/api/read", {"rows": [[0, ["a"]]]}),
-    "a line beyond spreadsheets": ("/api/read", {"rows": [[2**20 + 1, ["a"]]]}),
-    "no base64": ("/api/read", {"content": "%%%"}), "half a letter": ("/api/read", {"rows": [[1, ["\ud800"]]]}),
-    "another delimiter": ("/api/read", {"rows": [], "options": {"delimiter": "|"}}),
-    "a place of three numbers": ("/api/read", {"rows": [], "options": {"texts": [[1, 1, 1]]}}),
-    "no shop": ("/api/plan", {}), "no order": ("/api/plan", {"shop": SHOP}), "no kind": ("/api/file", PLAN),
-    "decimals below 0": ("/api/plan", {**PLAN, "shop": {**SHOP, "decimals": -1}}),
-    "too many decimals": ("/api/plan", {**PLAN, "shop": {**SHOP, "decimals": 10}}),
-    "more held than there are": ("/api/plan", {**PLAN, "held": 5}),
-    "a bound above all": ("/api/plan", {**PLAN, "least": 2**53 + 1}),
-    "a kind that is a path": ("/api/file", {**PLAN, "kind": "../../etc/cron.d/x"}),
-    "seconds below 0": ("/api/search", {**PLAN, "seconds": -1}), "too many held": ("/api/search", {**PLAN, "held": 5}),
-    "a seed above all": ("/api/search", {**PLAN, "seed": 2**53 + 1}),
-}
+# What is asked, and what isn't as in a plan.
+WRONG: list[tuple[str, Any]] = [
+    ("read", {}), ("read", {"rows": [[1]]}), ("read", {"rows": [[0, ["a"]]]}), ("read", {"rows": [[2**20 + 1, ["a"]]]}),
+    ("read", {"rows": [[1, ["a"]], [1, ["b"]]]}), ("read", {"rows": [[1, ["\ud800"]]]}), ("read", {"content": "%%%"}),
+    ("read", {"rows": [], "options": {"delimiter": "|"}}), ("read", {"rows": [], "options": {"texts": [[1, 1, 1]]}}),
+    ("plan", {"shop": None}), ("plan", {"order": None}), ("plan", {"shop": {**SHOP, "decimals": -1}}),
+    ("plan", {"shop": {**SHOP, "decimals": 10}}), ("plan", {"held": 5}), ("plan", {"least": 2**53 + 1}), ("file", {}),
+    ("file", {"kind": "../../etc/cron.d/x"}), ("search", {"seconds": -1}), ("search", {"held": 5}),
+    ("search", {"seed": 2**53 + 1})]
 
 
-@pytest.mark.parametrize("what", WRONG)
-def test_another_form_is_refused(client: FlaskClient, what: str) -> None:
-    path, body = WRONG[what]
-    assert refused(client, path, body) == (400, "the request has another form than those of this server's page")
+@pytest.mark.parametrize(("path", "more"), WRONG)
+def test_another_form_is_refused(path: str, more: Any, client: FlaskClient) -> None:
+    assert refused(client, f"/api/{path}", {**PLAN, **more}) \
+        == (400, "the request has another form than those of this server's page")
 
 
-REST = {**PLAN, "at": "2026-12-01T10:00"}
-TELLS: dict[str, tuple[str, Any, str]] = {
-    "ragged": ("/api/plan", {**PLAN, "shop": {**SHOP, "times": [[1, 2, 3], [1, 2], [1, 2, 3], [1, 2, 3]]}}, "times"),
-    "a time below 0": ("/api/plan", {**PLAN, "shop": {**SHOP, "times": [[-1, 2, 3]] * 4}}, "times"),
-    "a job twice": ("/api/plan", {**PLAN, "shop": {**SHOP, "jobs": ["a", "a", "b", "c"]}}, "'a' occurs twice"),
-    "no such day": ("/api/plan", {**PLAN, "calendar": {**DATES, "begin": "2026-02-30T06:00"}}, "2026-02-30"),
-    "another shift": ("/api/plan", {**PLAN, "calendar": {**DATES, "shifts": "6 to 14"}}, "is not a shift"),
-    "shifts alone": ("/api/plan", {**PLAN, "calendar": {**DATES, "begin": ""}}, '"Shifts" needs "Work begins"'),
-    "no unit": ("/api/plan", {**PLAN, "shop": {**SHOP, "unit": ""}}, "the times have no unit"),
-    "long dates": ("/api/plan", {**PLAN, "calendar": {**DATES, "closed": "2026-12-24," * 2_000}}, "too long"),
-    "calendars without dates": ("/api/file", {**PLAN, "calendar": {}, "kind": "zip"}, 'needs "Work begins"'),
-    "a rest without dates": ("/api/rest", {**PLAN, "calendar": {}, "at": "2026-12-01T10:00"}, '"Now" needs "Work'),
-    "before the beginning": ("/api/rest", {**PLAN, "at": "2026-11-29T10:00"}, 'is before "Work begins"'),
-    "all is finished": ("/api/rest", {**PLAN, "at": "2027-11-29T10:00"}, "finished"),
-    "no such machine": ("/api/rest", {**REST, "down": {"x": "2026-12-02T10:00"}}, "\"down until\": 'x' isn't"),
-    "up again": ("/api/rest", {**REST, "down": {"saw": "2026-12-01T09:00"}}, "'saw' is up"),
-    "another decimal sign": ("/api/read", {"rows": [], "options": {"decimal": "x"}}, "decimal must"),
-}
+AT = {"at": "2026-12-01T10:00"}
+TELLS: list[tuple[str, Any, str]] = [
+    ("plan", {"shop": {**SHOP, "times": [[1, 2, 3], [1, 2], [1, 2, 3], [1, 2, 3]]}}, "times"),
+    ("plan", {"shop": {**SHOP, "times": [[-1, 2, 3]] * 4}}, "times"),
+    ("plan", {"shop": {**SHOP, "jobs": ["a", "a", "b", "c"]}}, "'a' occurs twice"),
+    ("plan", {"calendar": {**DATES, "begin": "2026-02-30T06:00"}}, "2026-02-30"),
+    ("plan", {"calendar": {**DATES, "shifts": "6 to 14"}}, "is not a shift"),
+    ("plan", {"calendar": {**DATES, "begin": ""}}, '"Shifts" needs "Work begins"'),
+    ("plan", {"shop": {**SHOP, "unit": ""}}, "the times have no unit"),
+    ("plan", {"calendar": {**DATES, "closed": "2026-12-24," * 2_000}}, "too long"),
+    ("file", {"calendar": {}, "kind": "zip"}, 'a calendar needs "Work begins"'),
+    ("rest", {**AT, "calendar": {}}, '"Now" needs "Work'),
+    ("rest", {"at": "2026-11-29T10:00"}, 'is before "Work begins"'), ("rest", {"at": "2027-11-29T10:00"}, "finished"),
+    ("rest", {**AT, "down": {"x": "2026-12-02T10:00"}}, "\"down until\": 'x' isn't"),
+    ("rest", {**AT, "down": {"saw": "2026-12-01T09:00"}}, "'saw' is up"),
+    ("read", {"rows": [], "options": {"decimal": "x"}}, "decimal must")]
 
 
-@pytest.mark.parametrize("what", TELLS)
-def test_what_a_planner_can_change_is_told(client: FlaskClient, what: str) -> None:
-    path, body, said = TELLS[what]
-    status, error = refused(client, path, body)
+@pytest.mark.parametrize(("path", "more", "said"), TELLS)
+def test_what_a_planner_can_change_is_told(path: str, more: Any, said: str, client: FlaskClient) -> None:
+    status, error = refused(client, f"/api/{path}", {**PLAN, **more})
     assert status == 422 and said in error
 
 
@@ -472,7 +462,7 @@ def test_a_server_that_is_busy_says_so(monkeypatch: pytest.MonkeyPatch) -> None:
 
 # Plans
 
-# What is told of the plan of docs/PLAN.md.
+# The response on the plan of docs/PLAN.md.
 TOLD: dict[str, Any] = {
     "makespan": "15.5 h", "span": 155, "bound": "15.5 h", "isOptimal": True, "above": 0.0, "gone": [], "new": [],
     "end": "2026-12-01 13:30", "bottleneck": "paint", "moved": [],

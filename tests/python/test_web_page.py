@@ -1,9 +1,9 @@
 """The page for planners in a browser: a week of a planner, by a pointer and by the keyboard alone."""
 import base64
+import contextlib
 import difflib
 import io
 import json
-import os
 import pathlib
 import re
 from collections.abc import Callable, Iterator
@@ -79,18 +79,10 @@ class Page:
 
     def wait(self, has_come: Callable[[], Any], what: str = "the page shows it") -> None:
         def without_faults() -> bool:
-            try:
+            with contextlib.suppress(Exception):
                 return bool(has_come())
-            except Exception:
-                return False
-        try:
-            wait_until(without_faults, what, 20)
-        finally:
-            self.shot("last")
-
-    def shot(self, name: str) -> None:
-        if folder := os.environ.get("PFS_SHOTS"):
-            self.browser.save_screenshot(f"{folder}/{name}.png")
+            return False
+        wait_until(without_faults, what, 20)
 
     def drop(self, name: str, content: bytes) -> None:
         """Choose a file."""
@@ -128,7 +120,7 @@ def page(tmp_path_factory: pytest.TempPathFactory) -> Iterator[Page]:
             browser.quit()
 
 
-# Notes what the page asks, and says what is seen of it. The test answers for a search.
+# Notes what the page asks, and says what is seen of it. What a search returns is up to the test.
 WATCH = r"""{
 Object.assign(window, {noted: [], busy: 0, late: null, fails: null, teller: null});
 const ownFetch = window.fetch, ownRead = FileReader.prototype.readAsDataURL;
@@ -144,10 +136,10 @@ window.fetch = async (path, given = {}) => {
     return Response.json(given.method === "GET" && await new Promise(done => { teller = done; }));
   late = null;
   busy += !wait;
-  const answer = await ownFetch(path, given), content = await answer.arrayBuffer();
+  const got = await ownFetch(path, given), content = await got.arrayBuffer();
   await wait;
   busy -= !wait;
-  return new Response(content, answer);
+  return new Response(content, got);
 };
 FileReader.prototype.readAsDataURL = function (file) {
   busy += 1;
@@ -224,7 +216,7 @@ class Play:
                                 "each.placeholder; })"),
             "write": lambda key, text: page.write(page.key(key), text),
             "type": lambda key, text: page.key(key).send_keys(Keys.CONTROL, "a", Keys.NULL, text),
-            "drop": lambda name: page.drop(name, files[name]),
+            "drop": lambda name: (page.drop(name, files[name]), page.wait(lambda: run("return noted.length"))),
             "paste": lambda text: page.paste(text.replace("|", "\n")),
             "drag": self.drag,
             "tell": lambda told: run("const own = teller; teller = null; own(JSON.parse(arguments[0]))", told),
@@ -241,6 +233,7 @@ class Play:
         one, other = (each for name in names for each in self.page.all("#order .name") if each.text == name)
         self.run("arguments[0].scrollIntoView({block: 'center'})", one)
         webdriver.ActionChains(self.page.browser).drag_and_drop(one, other).perform()
+        self.page.wait(lambda: self.run("return noted.length"))
 
     def asked(self) -> Iterator[str]:
         """What the page has asked since the last step, each as its difference from the request before."""
@@ -308,11 +301,13 @@ LIST = r"""
 const faults = [], done = arguments[0];
 const later = () => new Promise(next => requestAnimationFrame(() => setTimeout(next)));
 const check = (isTrue, ...what) => { if (!isTrue) faults.push(what.join(" ")); };
+let told = 0;
 (async () => {
   const box = made("div", null, document.body, {className: "list"}), own = () => document.activeElement;
   const list = listIn(box, at => {
     const row = rowOf([`row ${at}`]);
-    control("input", `k${at}`, "", row.lastChild, {type: "text", value: "old"});
+    const onblur = () => { told += !isDrawing; };
+    control("input", `k${at}`, "", row.lastChild, {type: "text", value: "old", onblur});
     return row;
   }, () => rowOf(["head"], null, "th"));
   for (const count of [1, 40, 5000]) {
@@ -344,10 +339,13 @@ const check = (isTrue, ...what) => { if (!isTrue) faults.push(what.join(" ")); }
   box.scrollTop += 5;
   await later();
   check(field.isConnected, "is drawn again");
+  const silent = told;
   list.show(5000);
+  check(told === silent, "what is typed isn't taken when the list is drawn");
   check([own().value, own().selectionStart, own().selectionEnd].join() === "new,1,2", "keeps what is typed");
-  const top = box.scrollTop += 320;
+  const top = box.scrollTop += 320, before = told;
   await later();
+  check(told === before + 1, "what is typed is taken when it is scrolled away");
   check(box.scrollTop === top && own().dataset.key === "k100" && list.reach(7, "none") === null, "jumps");
   list.show(0);
   check(box.hidden, "hidden");
@@ -392,7 +390,8 @@ for (const row of all("header, section div:not(.list), #options"))
 const most = Math.min(room, 1230);
 // What is seen by these names: its width or height, from the least to the most.
 for (const [selector, side, least, greatest] of [
-    ["body", "width", most - 20, most], [".list tr[aria-rowindex], .list thead tr", "height", 32, 32],
+    ["body", "width", most - 20, most], ["h1, h2, h3", "height", 20, 30],
+    [".list tr[aria-rowindex], .list thead tr", "height", 32, 32],
     [".list, #faults", "height", 0, 361], ["iframe", "height", 400, 500],
     ["section > *:not(table, h3)", "width", .9 * most - 27, most],
     ["#order table", "width", .98 * all("#order")[0]?.clientWidth || 0, 5000],
@@ -420,6 +419,8 @@ for (const each of all(".list thead th")) {
 }
 scrollTo(0, 0);
 check(Math.abs(box(body).left + box(body).right - room) < 2, "not in the middle", body);
+for (const each of all("#language")) check(box(each).left > room / 2, "at the left", each);
+for (const each of all("#order .start")) check(room > 700, "not needed on a phone", each);
 return faults;"""
 
 
@@ -441,13 +442,12 @@ def test_nothing_is_hard_to_read(wide: int, colours: str, page: Page) -> None:
         assert run(LOOK) == []
         page.paste(TABLE)
         page.wait(lambda: "12 Auf" in page.text("#read"))
-        for step in ("doc.order = [...read.shop.jobs]; evaluate()", "byId('keep').click()", "move(5, 0, 'J6:up')"):
+        for step, seen in (("doc.order = [...read.shop.jobs]; evaluate()", ".name"), ("byId('keep').click()", ".best"),
+                           ("move(5, 0, 'J6:up')", ".moved")):
             run(step)
-            page.wait(lambda: page.all("#plans .best") if "keep" in step else page.order(), step)
-        page.wait(lambda: page.order()[0] == "J6" and page.all(".moved"))
+            page.wait(lambda: page.all(f"section {seen}"), step)
         page.press("J2:hold")
         assert run(LOOK) == []
-        page.shot(f"plan-{wide}")
     finally:
         send("Emulation.clearDeviceMetricsOverride", {})
         send("Emulation.setEmulatedMedia", {"features": []})
@@ -509,8 +509,6 @@ def test_by_the_keyboard_alone(page: Page) -> None:
     tab_to(lambda each: each.get_attribute("data-key") == "3,2")
     # Faster than the server reads what is written.
     webdriver.ActionChains(page.browser).send_keys("71", Keys.TAB, "73", Keys.TAB, Keys.TAB, "K3", Keys.ENTER).perform()
-    page.wait(lambda: page.browser.execute_script("return doc.rows.slice(2, 4).map(row => row[1].join())")
-              == ["J2,71,73", "K3,22,34"])
     page.wait(lambda: active().get_attribute("data-key") == "4,1" and page.browser.execute_script(
         "return read.shop.times[1].join() + read.shop.jobs[2]") == "71,73K3")
     tab_to(lambda each: each.get_attribute("id") == "plan").send_keys(Keys.ENTER)
@@ -537,18 +535,3 @@ def test_the_page_has_the_language_of_the_browser(page: Page) -> None:
                   == (due, due))
     Select(page.one("#language")).select_by_value("de")
     page.wait(lambda: page.text("h1") == "Flie\u00dffertigung planen")
-
-
-@pytest.mark.seconds(30)
-def test_five_thousand_jobs(page: Page) -> None:
-    """A fault among them is reached, and mended."""
-    page.open()
-    rows = "".join(f"J{at},{at * 37 % 997 + 1},{at * 53 % 991 + 1}\n" for at in range(5_000))
-    page.drop("large.csv", f"job,saw,drill\n{rows}".replace("\nJ4000,445,", "\nJ4000,x,").encode())
-    page.wait(lambda: page.all("#faults button"))
-    page.all("#faults button")[0].click()
-    page.browser.switch_to.active_element.send_keys(Keys.CONTROL, "a", Keys.NULL, "445")
-    # What is written is taken also when it is scrolled away.
-    page.browser.execute_script("byId('table').scrollTop = 0")
-    page.wait(lambda: "5000 jobs" in page.text("#read"))
-    assert page.logged() == []

@@ -1,4 +1,3 @@
-"use strict";
 // The texts of the page in German. What the server says of tables is translated by patterns; the rest of it is English.
 const GERMAN = {
   "Plan a flow shop": "Fließfertigung planen", "Language": "Sprache",

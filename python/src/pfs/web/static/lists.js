@@ -1,4 +1,3 @@
-"use strict";
 // An element with a text, and its properties.
 function made(kind, text, parent, properties) {
   const element = Object.assign(document.createElement(kind), properties);

@@ -1,4 +1,3 @@
-"use strict";
 const byId = id => document.getElementById(id);
 const token = location.hash.slice(1) || sessionStorage.getItem("token") || "";
 sessionStorage.setItem("token", token);
