@@ -147,6 +147,9 @@ FileReader.prototype.readAsDataURL = function (file) {
   ownRead.call(this, file);
 };
 HTMLAnchorElement.prototype.click = function () { noted.push(["save", this.download, {}]); };
+URL.revokeObjectURL = href => noted.push(["free", href.slice(0, 5), {}]);
+const ownWait = window.setTimeout;
+window.setTimeout = (call, wait) => ownWait(call, wait === 60_000 ? 0 : wait);
 // Waits until nothing is under way but a search that asks again.
 window.idle = async () => {
   for (let calm = 0; calm < 3; calm = busy || running && !teller ? 0 : calm + 1)

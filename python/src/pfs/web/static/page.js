@@ -30,7 +30,8 @@ function keep() {
   doc.controls = controls();
   try { sessionStorage.setItem("document", JSON.stringify(doc)); } catch {
     sessionStorage.removeItem("document");
-    byId("read").textContent += ` ${tr("It is too large to survive a reload of the page.")}`;
+    const note = ` ${tr("It is too large to survive a reload of the page.")}`;
+    byId("read").textContent = byId("read").textContent.replace(note, "") + note;
   }
 }
 
@@ -168,7 +169,7 @@ const plan = more => ({shop: read.shop, order: doc.order, held: heldNow(), least
                        language, kept: doc.plans.map(each => each.order),
                        title: byId("title").value || doc.name, ...more});
 byId("plan").onclick = doing(async () => {
-  const {shop} = read;
+  const {shop} = read, {rows} = doc;
   byId("plan").disabled = true;
   try {
     running = await ask("/api/search", plan({seconds: Number(byId("seconds").value), seed: doc.seed++}));
@@ -176,6 +177,8 @@ byId("plan").onclick = doing(async () => {
     for (let told = {}; running && told.state !== "done";) {
       told = await ask(`/api/search/${running.search}`);
       if (!running) return;
+      // A search says nothing of another table, which was read while it ran.
+      if (rows !== doc.rows) { await ask(`/api/search/${running.search}`, null, "DELETE"); return; }
       running.isWaiting = told.place > 0;
       byId("bar").value = told.seconds / told.limit;
       byId("progress").textContent = running.isWaiting ? tr("waits for a processor, place {place}", told) :
@@ -210,7 +213,7 @@ window.addEventListener("pagehide", () => running && fetch(`/api/search/${runnin
 async function evaluate() {
   if (!doc.order || !read.shop) return;
   const turn = ++asked, found = await ask("/api/plan", plan());
-  if (turn !== asked) return;
+  if (turn !== asked || !read.shop) return;
   [now, doc.held, doc.order] = [found, heldNow(), found.jobs.map(([name]) => name)];
   byId("three").hidden = false;
   const others = [[now.gone, tr("left out, as the table lacks them:")],
@@ -219,7 +222,7 @@ async function evaluate() {
     ? tr("optimal: no order is shorter") : tr("at most {above} % above the shortest: no order is below {bound}", now),
     ...others.map(([names, text]) => `${text} ${names.join(", ")}`)].join("; ");
   byId("chart").srcdoc = now.chart;
-  byId("now").value ||= now.end && now.jobs[0][1];
+  byId("now").value ||= now.end && now.jobs[0][1].slice(0, 16);
   byId("machines").replaceChildren(rowOf([...now.heads, tr("down until")], null, "th"));
   for (const each of now.machines) {
     const row = rowOf(each, byId("machines"), "td", "number");
@@ -274,6 +277,7 @@ for (const button of document.querySelectorAll("[data-kind]")) button.onclick = 
   const {kind} = button.dataset, href = URL.createObjectURL(await ask("/api/file", plan({kind})));
   const stem = (byId("title").value || "plan").replace(/[^\p{L}\p{N} _-]/gu, "-").slice(0, 80);
   made("a", null, null, {href, download: `${stem}.${kind}`}).click();
+  setTimeout(() => URL.revokeObjectURL(href), 60_000);
 });
 
 // What is left of the plan
