@@ -44,9 +44,9 @@ def cut(text: str, letters: int, room: float) -> str:
 
 
 class Look(NamedTuple):
-    """What is looked at: a chart on a canvas that is so wide, from one time to another one or to the end; on a screen
-    with so many pixels, light or dark, or on paper; the operation that one points at, by machine and place; and the
-    places of the jobs that are sought."""
+    """What is looked at: a chart on a canvas of this width, from one time to another one or to the end; on a screen
+    with this number of pixels for one of CSS, light or dark, or on paper; the operation that one points at, by machine
+    and place; and the places of the jobs that are sought."""
     made: pfs.Schedule
     calendar: pfs.Calendar | None = None
     critical: bool = False
@@ -225,7 +225,6 @@ def just_fitting(last: str) -> pfs.Schedule:
         range(len(times)))
 
 
-# 2026-11-30 is a Monday.
 CALENDARS = [(pfs.Calendar(*words), unit) for unit, *words in (
     ("h", "2026-12-30T12:00"), ("min", "1969-12-30T22:00:07", "22:00-06:00", "mon-fri"),
     ("s", "1969-12-31T23:59:50", "23:59-00:01"), ("min", "2026-12-06T23:00", "22:00-06:00", "sun"),
@@ -260,7 +259,7 @@ LOOKS: dict[str, list[Look]] = {
         Look(pfs.Instance([[4800, 0, 3000], [600, 24_000, 0], [1195, 7, 9], [1, 1, 0]], unit="min", decimals=1,
                           job_names=[*"abcd"], machine_names=MACHINES).schedule([2, 0, 1, 3]),
              pfs.Calendar("2026-11-27T12:00:30", ["06:00-14:00", "fri:22:00-02:00"], "mon-fri", "2026-11-30"), True),
-        {}, dict(first=3000, last=3040), dict(first=4700, last=4710), dict(last=600)),
+        {}, dict(first=3000, last=3040), dict(first=3000, last=3100), dict(first=4700, last=4710), dict(last=600)),
     "hours and minutes": looks(Look(pfs.Instance([[90, 45], [30, 600]], unit="h:mm").schedule([1, 0]), critical=True),
                                dict(wide=500), dict(wide=1000, first=90, last=330)),
     "many operations": looks(Look(generated(1500, 1)), {}, dict(first=1000, last=3000)),
@@ -269,7 +268,7 @@ LOOKS: dict[str, list[Look]] = {
     "no work": looks(Look(pfs.Instance([[0, 0]] * 2, machine_names=["saw", "il " * 40]).schedule([0, 1]), None, True),
                      dict(wide=900), dict(wide=450)),
     **{f"from {calendar.begin} on": [Look(pfs.Instance(
-        [[240, 250, 0], [200, 500, 150], [400, 100, 201]], unit=unit, decimals=2 if unit == "s" else 0,
+        [[240, 250, 0], [200, 500, 150], [400, 100, 205]], unit=unit, decimals=7 if unit == "s" else 0,
         machine_names=MACHINES).schedule([1, 0, 2]), calendar)] for calendar, unit in CALENDARS},
 }
 LOOKED = MEASURED + """
@@ -303,11 +302,9 @@ class Page(NamedTuple):
 
 
 def page_of(looks: list[Look]) -> Page:
-    states = [dict(list(look._asdict().items())[4:]) for look in looks]
-    more = {name: getattr(looks[0], name) for name in ("calendar", "critical")}
-    bound = False if looks[0].bound is None else looks[0].bound
-    script = LOOKED + f"tell([told, listed, ...{json.dumps(states)}.map(looked)]);"
-    return Page(looks[0].made, script, more | {"bound": bound})
+    states, first = [dict(list(look._asdict().items())[4:]) for look in looks], looks[0]
+    return Page(first.made, LOOKED + f"tell([told, listed, ...{json.dumps(states)}.map(looked)]);", {
+        "calendar": first.calendar, "critical": first.critical, "bound": False if first.bound is None else first.bound})
 
 
 def listed(rows: list[list[str]], is_dated: bool) -> list[list[str]]:
@@ -380,13 +377,12 @@ MOVES: dict[str, tuple[tuple[float, float], str]] = {
     'press("+"); send("dblclick", MouseEvent, left, 5)': ((0, 125), ""),
     'hover(70)': ((0, 125), TIP_OF_DRILL), 'hover(0)': ((0, 125), ""), 'hover(70)' + LEAVE: ((0, 125), ""),
     FAR_IN + 'hover(70); send("pointermove", PointerEvent, width - RIGHT + 9, yOf(1) + ROW / 2)': ((30.5, 94.5), ""),
-    'press("+", "+"); hover(70)': ((22.5, 102.5), TIP_OF_DRILL),
-    'tap(25)': ((0, 125), TIP), 'tap(25); tap(5, 2)': ((0, 125), ""),
+    'press("+", "+"); hover(70)': ((22.5, 102.5), TIP_OF_DRILL), 'tap(25)': ((0, 125), TIP),
+    'tap(25); tap(5, 2)': ((0, 125), ""), 'touch(1, 25); touch(2, 75)' + LIFT: ((0, 125), TIP),
     FAR_IN + 'touch(1, 25); slide(1, 25.3125); lift(1)': ((30.5, 94.5), TIP),
     FAR_IN + 'touch(1, 25); slide(1, 25.4375); lift(1)': ((30.276, 94.276), ""),
     'tap(25); document.body.dispatchEvent(new PointerEvent("pointerdown", {pointerId: 3, bubbles: true}))':
         ((0, 125), ""),
-    'touch(1, 25); touch(2, 75)' + LIFT: ((0, 125), TIP),
     'touch(1, 50); touch(2, 75); slide(1, 37.5); slide(2, 87.5)' + LIFT + '; slide(1, 10); slide(2, 110)'
     + LEAVE: ((31.25, 93.75), ""),
     'press("+", "+", "+", "+"); touch(1, 0); touch(2, 125); slide(1, 50); slide(2, 75)' + LIFT: ((0, 125), ""),
@@ -448,8 +444,7 @@ def test_what_hands_do_with_a_chart(pages: dict[str, Any], move: str) -> None:
 
 def test_keys_the_wheel_and_fingers_that_scroll_are_the_browsers(pages: dict[str, Any]) -> None:
     seen = pages["hands"]
-    assert seen["taken"] == [False] * 17 and seen["own"] == [True, True] and seen["action"] == "pan-y"
-    assert seen["isFollowed"], "where the screen becomes dark later, the chart stays as it is"
+    assert (seen["taken"], seen["own"], seen["action"], seen["isFollowed"]) == ([False] * 17, [True] * 2, "pan-y", True)
 
 
 # Functions of the page, each with many arguments
@@ -483,8 +478,8 @@ def test_the_operation_at_a_point(pages: dict[str, Any]) -> None:
 def test_a_tip_is_next_to_the_pointer_and_in_the_window(pages: dict[str, Any]) -> None:
     wide, high = pages["functions"]["size"]
     for (x, y), (is_hidden, left, top, right, bottom) in zip(POINTERS, pages["functions"]["tips"], strict=True):
-        assert is_hidden == (y > 114)
-        assert is_hidden or 0 == max(left - x - 14, right - wide + 8) == max(top - y - 14, bottom - high + 8), (x, y)
+        beside, below = max(left - x - 14, right - wide + 8), max(top - y - 14, bottom - high + 8)
+        assert is_hidden if y > 114 else beside == below == 0, (x, y)
 
 
 # Names that a page, a template or a replacement could take for something else
@@ -524,9 +519,8 @@ PAGES |= {"harmless": of_names([f"job {at}" for at in range(len(DANGEROUS))], "p
 def test_no_name_becomes_a_part_of_the_page(pages: dict[str, Any]) -> None:
     due, seen, made = pages["harmless"], pages["dangerous"], PAGES["dangerous"].made
     title = due["titles"][0].removeprefix("plan.csv").replace(" h,", f" {UNIT},")
-    assert seen["titles"] == [f"{UNIT}.csv{title}"] * 3
+    assert seen["titles"] == [f"{UNIT}.csv{title}"] * 3 and seen["focus"] == due["focus"] == "BODY"
     assert seen["elements"] == due["elements"], "a name has made an element or an attribute"
-    assert seen["focus"] == due["focus"] == "BODY"
     shown = {"a\u2028b\u2029c": "a\\u2028b\\u2029c", "\u202eright to left": "\\u202eright to left"}
     assert seen["tips"] == [
         f"job {shown.get(job, job)}\nmachine saw {DANGEROUS[0]}\nstart {start}\nend {end}"
@@ -541,8 +535,7 @@ def test_the_policy_keeps_other_scripts_and_styles_out(chromium: str, tmp_path: 
                    "each => getComputedStyle(each).display)]);"
     title, heading, chart = looked_at(chromium, scripted(tmp_path / "chart.html", script, injected), tmp_path)
     assert title == "plan: 3 jobs on 3 machines: makespan 12.5 h, bound 11.5 (dashed), critical path outlined"
-    assert heading == "block", "the page's policy lets a foreign style in"
-    assert chart == "block", "the page's policy keeps its own style out"
+    assert heading == chart == "block", "the page's policy lets a foreign style in, or keeps its own style out"
     text = (tmp_path / "chart.html").read_text("utf-8")
     assert "default-src 'none'" in text and "unsafe" not in text and text.count("</script>") == 2
     assert not re.search(r"""(?:src|href)\s*=|url\(|@import|https?:|fetch\(|XMLHttp|import\(""", text)
@@ -552,7 +545,6 @@ def test_the_policy_keeps_other_scripts_and_styles_out(chromium: str, tmp_path: 
 
 # A search for a job, and a list of each machine
 
-# The bars of the first job are long, and those of the others short or very short.
 LENGTHS = [[400, 300, 500], [40, 12, 40], [40, 40, 0], [12, 1, 40], [40, 40, 40]]
 NAMES = ["table", "chair, oiled and polished", "shelf of oak", "box with a lid", "bench without a back"]
 SHORT_NAMES = ["table", "A", "Shelf of oak", "Shelf", "bOX"]
@@ -601,7 +593,7 @@ PAGES |= {"sought": of_search(plan(SHORT_NAMES), *FOUND),
 
 
 def test_jobs_that_are_sought_and_machines_are_listed(pages: dict[str, Any]) -> None:
-    """Without a mouse."""
+    """Without a mouse, and Enter leaves the page as it is."""
     made, seen = plan(SHORT_NAMES), pages["sought"]
     heads = ["col machine", "col start", "col end"], ["col place", "col job", "col start", "col end"]
     times = [[[machine, str(start), str(end)] for machine, start, end in zip(MACHINES, *row) if start < end]
@@ -615,10 +607,9 @@ def test_jobs_that_are_sought_and_machines_are_listed(pages: dict[str, Any]) -> 
         [str(place), SHORT_NAMES[ORDER[place - 1]], *row[1:]] for place, rows in enumerate(times, 1) for row in rows
         if row[0] == machine)] for machine in MACHINES]
     assert seen["choice drill"] == seen["choice all"][1:2] and seen["choice none"] == []
-    assert seen["choices"] == ["none", "all", *MACHINES] and seen["roles"] == ["status"] * 2
+    assert seen["choices"] == ["none", "all", *MACHINES] and seen["roles"] == ["status"] * 2 and seen["stays"]
     assert seen["reached"] == [[0, "img", None, None], [0, "search", "off", "Find a job:"], *(
         [0, "select-one", "", label] for label in ("List a machine:", "Print:", "on"))]
-    assert seen["stays"], "Enter leaves the page as it is"
     for text, many, first in (("x", 20, 0), ("y", 21, 20)):
         said, lists, places, _ = pages["many sought"][text]
         assert said == f"{many} jobs found" + (", the first 20 are listed below" if many > 20 else "")
@@ -753,9 +744,10 @@ choice.value = "all";
 choice.dispatchEvent(new Event("change"));
 places.open = true;
 places.dispatchEvent(new Event("toggle"));
+const opened = places.querySelectorAll("li").length;
 send("pointermove", PointerEvent, left + 5, TOP + 5);
 draw();
-const seen = {screen: look()};
+const seen = {opened, screen: look()};
 document.body.style.width = "160px";
 seen.lines = all("#lists :is(th, td)", cell => cell.textContent.includes(" ") || textBox(cell)[4]);
 document.body.style.width = "";
@@ -781,8 +773,7 @@ def test_all_that_the_style_says_is_understood_and_is_for_something(pages: dict[
 def test_blocks_and_columns_are_apart(pages: dict[str, Any], name: str, margin: int, column: int) -> None:
     """In pixels. Blocks are as wide as the window but for its margins; numbers are under each other."""
     seen, paper = pages[name]["screen"], pages[name]["paper"]
-    blocks, ((size, _, high), *others) = seen["blocks"], seen["sizes"]
-    left = blocks[0][0]
+    blocks, ((size, _, high), *others), left = seen["blocks"], seen["sizes"], seen["blocks"][0][0]
     assert all(block[0] == left for block in blocks) and left == pytest.approx(margin, abs=2)
     assert {round(seen["width"] - block[2] - left) for block in blocks[:5]} == {0}
     gaps = [below[1] - above[3] for above, below in itertools.pairwise(blocks)]
@@ -798,7 +789,7 @@ def test_blocks_and_columns_are_apart(pages: dict[str, Any], name: str, margin: 
         assert all(after[0] - before[2] > column for row in whole for before, after in itertools.pairwise(row)), rows
         for cells in zip(*whole):
             assert len({round(cell[cell[5]]) for cell in cells}) == 1, "cells of a column"
-    assert {*pages[name]["lines"]} == {True}, "a word is broken where a list is narrow"
+    assert pages[name]["opened"] == 5 and {*pages[name]["lines"]} == {True}, "a word is broken where a list is narrow"
     assert paper["blocks"][0][0] == 0 and 0.8 < paper["sizes"][-1][0] / size < 0.9
     assert {round(right) for right in paper["sheets"]} == {paper["width"]}, "the charts are as wide as the paper"
 
