@@ -263,10 +263,10 @@ def test_no_value_at_any_place_is_a_fault_of_the_server(path: str, body: dict[st
     found = searches.Searches(1)
     client = client_here(found)
     for place, value in itertools.product(leaves(body), VALUES):
-        changed = copy.deepcopy({"": body})
-        *way, last = ("", *place)
-        at: Any = functools.reduce(operator.getitem, way, changed)
-        is_other, at[last] = type(value) not in (type(None), type(at[last])), value
+        changed: Any = {"": copy.deepcopy(body)}
+        way: list[Any] = ["", *place]
+        at = functools.reduce(operator.getitem, way[:-1], changed)
+        is_other, at[way[-1]] = type(value) not in (type(None), type(at[way[-1]])), value
         status, error = refused(client, path, changed[""])
         assert status in ([400] if is_other else [200, 400, 422, 429, 503]), f"{place}: {value}: {error}"
     found.end_all()

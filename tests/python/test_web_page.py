@@ -219,7 +219,7 @@ class Play:
                                 "each.placeholder; })"),
             "write": lambda key, text: page.write(page.key(key), text),
             "type": lambda key, text: page.key(key).send_keys(Keys.CONTROL, "a", Keys.NULL, text),
-            "drop": lambda name: (page.drop(name, files[name]), page.wait(lambda: run("return noted.length"))),
+            "drop": self.drop,
             "paste": lambda text: page.paste(text.replace("|", "\n")),
             "drag": self.drag,
             "tell": lambda told: run("const own = teller; teller = null; own(JSON.parse(arguments[0]))", told),
@@ -231,6 +231,10 @@ class Play:
             "do": run, "row": lambda key: run("return said(arguments[0])", key),
             "numbers": lambda: [each.text for each in page.all(".number")],
             "headings": lambda: [each.text for each in page.all("h1, h2") if each.is_displayed()]}
+
+    def drop(self, name: str) -> None:
+        self.page.drop(name, self.files[name])
+        self.page.wait(lambda: self.run("return noted.length"))
 
     def drag(self, *names: str) -> None:
         one, other = (each for name in names for each in self.page.all("#order .name") if each.text == name)
