@@ -282,12 +282,17 @@ BY_SUDO = f"""-n true
 """
 
 
+SAID = f"setup: installing 55 packages, 60.5 MB for {NAMES} (what apt says is in LOG)\n"
+SERVERS = "".join(f"setup: the server of {name} isn't started now, but enabled: Debian starts it at the next boot, "
+                  "unless you disable it by systemctl\n" for name in NAMES.split()[1:])
+
+
 @pytest.mark.parametrize(("ends", "status", "user", "told", "said"), [
-    ("true", 1, 1000, TOLD, f"setup: these packages are still incomplete: {NAMES}\n"),
-    ('ln -s /bin/true "$TOP/nosuch"', 0, 0, "", ""),
-    ("exit 100", 1, 0, TOLD, "".join(f"{number}\n" for number in range(6, 26))),
-    ("kill -INT $PPID", 1, 0, TOLD, ""), ("kill -TERM $PPID", 1, 0, TOLD, ""), ("kill -HUP $PPID", 1, 0, TOLD, ""),
-    ("", 1, 2, "", f"setup: packages are missing, and only root can install them:\n"
+    ("true", 1, 1000, TOLD, f"{SAID}{SERVERS}setup: these packages are still incomplete: {NAMES}\n"),
+    ('ln -s /bin/true "$TOP/nosuch"', 0, 0, "", SAID.replace("55 packages, 60.5 MB", "packages") + SERVERS),
+    ("exit 100", 1, 0, TOLD, SAID + "".join(f"{number}\n" for number in range(6, 26))),
+    *((f"kill -{name} $PPID", 1, 0, TOLD, SAID) for name in ("INT", "TERM", "HUP")),
+    ("", 1, 2, "", "setup: packages are missing, and only root can install them:\n"
                    f"apt-get install --no-install-recommends {NAMES}\n")])
 def test_packages_are_installed_and_servers_not_started(ends: str, status: int, user: int, told: str, said: str,
                                                         top: pathlib.Path, folder: pathlib.Path) -> None:
@@ -300,27 +305,19 @@ def test_packages_are_installed_and_servers_not_started(ends: str, status: int, 
     for name, text in STAND_INS.items():
         write_script(folder / name, f"#!/bin/sh\n{text}")
     (folder / "told").write_text(told)
-    is_mine = "exit" in ends
-    if is_mine:
+    if is_mine := "exit" in ends:
         write_script(policy, "#!/bin/sh\nexit 5\n")
     env = {"PATH": f"{folder}:/usr/bin:/bin", "TMPDIR": str(folder), "TOP": str(folder), "USER_ID": str(user),
            "ENDS": ends}
     got = run_tool([folder / "tools" / "setup", "try"], folder, env=env)
-    logs = [*folder.glob("tmp.*")]
-    if user != 2:
-        size = "55 packages, 60.5 MB" if told else "packages"
-        text = f"setup: installing {size} for {NAMES} (what apt says is in {logs[0]})\n"
-        if status == 0 or "still" in said:
-            text += "".join(f"setup: the server of {name} isn't started now, but enabled: Debian starts it at the next "
-                            "boot, unless you disable it by systemctl\n" for name in NAMES.split()[1:])
-        said = text + said
-        assert logs[0].read_text() == (
-            f"update -q update\nC -q install --assume-no --no-install-recommends {NAMES}\n"
-            f"noninteractive -q install -y --no-install-recommends {NAMES}\npolicy {5 if is_mine else 101}\n"
-            + "".join(f"{number}\n" for number in range(1, 26)))
-    assert got == Done(status, "", said) and policy.exists() == is_mine
+    assert got._replace(stderr=re.sub(r"\S+/tmp\.\w+", "LOG", got.stderr)) == Done(status, "", said)
+    assert [path.read_text() for path in folder.glob("tmp.*")] == [
+        f"update -q update\nC -q install --assume-no --no-install-recommends {NAMES}\n"
+        f"noninteractive -q install -y --no-install-recommends {NAMES}\npolicy {5 if is_mine else 101}\n"
+        + "".join(f"{number}\n" for number in range(1, 26))] * (user != 2)
     noted = (folder / "notes").read_text() if user else ""
     assert noted.replace(str(folder), "TOP") == {0: "", 2: "-n true\n"}.get(user, BY_SUDO)
+    assert policy.exists() == is_mine
     assert status or run_tool([folder / "tools" / "setup", "try"], folder, env=env | {"USER_ID": "2"}) == (0, "", "")
 
 

@@ -84,9 +84,7 @@ HEADER = """/** @file
  *     int code = 1;
  */
 /** @name Numbers of calls.
- * Of all.
- * @{
- */
+ * Of all. @{ */
 #define PFS_OK 0 /**< it succeeded */
 #define PFS_MOST 5
 /** @} */
@@ -94,21 +92,16 @@ HEADER = """/** @file
 struct pfs_it {
     int a; /**< the first,
             * PFS_ONE or more */
-    int *b; /**< another */
 };
 /** @brief Calls pfs_none.
- *
  * @param[in] list the list
  * @param[in,out] it the struct,
  *     or NULL
- * @return PFS_OK
- */
+ * @return PFS_OK */
 int pfs_call(struct pfs_it *instance, const int *list, size_t list_length,
              struct pfs_it *it) PFS_CHECKED;
 /** @brief The last number. */
 #define PFS_ONE 1
-/** @brief Nothing. */
-void pfs_none(void);
 """
 REFERENCE = r"""C reference
 ===========
@@ -126,8 +119,6 @@ Of all.
    What :c:struct:`pfs_it` has.
    .. c:member:: int a
       the first, :c:macro:`PFS_ONE` or more
-   .. c:member:: int *b
-      another
 Functions
 ---------
 .. c:function:: int pfs_call(struct pfs_it *instance, const int *list, size_t list_length, struct pfs_it *it)
@@ -137,8 +128,6 @@ Functions
    :returns: :c:macro:`PFS_OK`
 .. c:macro:: PFS_ONE
    The last number.
-.. c:function:: void pfs_none(void)
-   Nothing.
 """
 
 
