@@ -184,6 +184,14 @@ REJECTED: dict[Callable[[Any], object], list[tuple[Any, type[Exception], str]]] 
     lambda given: [SHOP.best_place([0], 1, ties=given), SHOP.insert_all([0], [1], ties=given)]: [
         ("last", ValueError, "ties must be 'first' or 'idle', not 'last'"), (None, TypeError, "ties must be")],
     pfs.from_frame: [(frame, TypeError, "frame must be a pandas DataFrame, not ") for frame in ([[1]], None)],
+    lambda given: pfs.from_frame(pytest.importorskip("pandas").DataFrame(given[0]), decimals=given[1]): [
+        (([[2.55]], 1), ValueError, "times: 25.5 at job 0, machine 0 isn't a whole number"),
+        (([[2.5]], 0), ValueError, "times: 2.5 at job 0"), (([[1.0, float("nan")]], 1), ValueError, "nan at job 0"),
+        (([[float("inf")]], 2), ValueError, "times: inf at job 0"), (([[-0.5]], 1), ValueError, "times: -5 at job 0"),
+        (([[2.50000009]], 1), ValueError, "isn't a whole number"), (([[1e9]], 1), ValueError, "isn't from 0 to"),
+        (([[1_000_000_001]], 0), ValueError, "isn't from 0 to 1,000,000,000"), (([[True]], 1), TypeError, "bool"),
+        (([["x"]], 1), TypeError, "times: x at job 0, machine 0 isn't a whole number"),
+        (([[1]], 10), ValueError, "decimals must be from 0 to 9, not 10"), (([[1]], True), TypeError, "decimals must")],
     SHOP.to_text: [("csv", ValueError, "layout must be 'taillard' or 'orlib', not 'csv'")],
     lambda words: pfs.read("x", *words): [
         ((0,), TypeError, "layout must be 'taillard', 'orlib' or 'matrix', not 0"),
