@@ -225,11 +225,6 @@ def test_ten_thousand_orders(untraced: None) -> None:
     assert time.process_time() - begun < 10
 
 
-def test_a_layout_is_one_of_three() -> None:
-    with pytest.raises(ValueError, match="^layout must be 'taillard', 'orlib', 'matrix', not 'csv'"):
-        pfs.audit([["a", "1", "1"]], {}, layout="csv")
-
-
 def test_check() -> None:
     best = SMALL.neh()
     assert SMALL.check(best) == (True, 10, 10, "") and SMALL.check([0, 1, 2]) == (True, 11, 10, "")

@@ -205,13 +205,6 @@ def test_names_of_no_instance(name: str) -> None:
     assert found.verdict == "unclear" and "no instance " in found.why and len(found.why) < 200
 
 
-def test_shops_that_are_no_instances() -> None:
-    wrong: list[Any] = [[1], {"a": 1}, {1: SMALL}]
-    for shops in wrong:
-        with pytest.raises(TypeError, match="shops must be instances by their names"):
-            pfs.audit(rows_of("2 1 3"), shops)
-
-
 def test_no_file_that_is_read_is_replaced(tmp_path: pathlib.Path, monkeypatch: pytest.MonkeyPatch) -> None:
     monkeypatch.chdir(tmp_path)
     (tmp_path / "f" / "g").mkdir(parents=True)

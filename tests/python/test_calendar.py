@@ -281,11 +281,6 @@ def test_units_that_have_no_dates(tmp_path: pathlib.Path, unit: str, why: str) -
     assert not list(tmp_path.iterdir())
 
 
-def test_a_date_is_no_calendar() -> None:
-    with pytest.raises(TypeError, match="calendar must be a Calendar, not '2026-11-30'"):
-        pfs.Instance([[1]], unit="h").schedule([0]).to_csv(calendar="2026-11-30")  # type: ignore[arg-type]
-
-
 # Files
 
 @pytest.mark.parametrize(("unit", "decimals", "begin", "rows"), [

@@ -515,7 +515,7 @@ def test_a_search_by_time_continues_with_another_seed(libpfs: Library, monkeypat
     """After the last round of a seed, here the eighth. No part goes beyond it. If NEH takes as long as there is, no
     round begins. By the clock NEH takes 3 s and a round 1 s. The time is noted after NEH and after each part."""
     def search(number: int) -> Rounds:
-        return Rounds(one.caller([at * at % 97 for at in range(1, 201)], 20, 10), 20, 4, 0, number % 2 ** 64)
+        return Rounds(one.caller([at * at % 97 for at in range(1, 201)], 20, 10), 20, 4, 0, number)
 
     def spent_by(found: Rounds, seconds: float) -> float:
         monkeypatch.setattr(time, "process_time", lambda: 10.0 + (3 + found.last.total if found.last else 0))
@@ -530,20 +530,8 @@ def test_a_search_by_time_continues_with_another_seed(libpfs: Library, monkeypat
         assert (spent_by(found, seconds), found.finished().total) == (spent, rounds) and notes == [3, 4][:rounds + 1]
     monkeypatch.setattr(_rounds, "PART", 5)
     monkeypatch.setattr(_rounds, "MOST_ROUNDS", 8)
-    seed, step = 2 ** 64 - 5, 11400714819323198485
-    found = search(seed)
+    found = search(2 ** 64 - 5)
     assert (spent_by(found, 18), notes) == (18, [3, 4, 8, 11, 16, 18]) and found.finished().total == 15
-    monkeypatch.setattr(_rounds, "MOST_ROUNDS", 1_000_000)
-    orders = []
-    for second in (seed + step, seed):
-        again, other = search(seed), search(second)
-        again.begin()
-        again.run_rounds(8)
-        other.begin()
-        other.finished().order[:] = list(again.finished().order)
-        other.run_rounds(found.finished().total - 8)
-        orders.append(list(other.finished().order))
-    assert orders[0] == list(found.finished().order) != orders[1], "rounds of two seeds"
 
 
 # Other programs
@@ -923,30 +911,6 @@ def test_a_run_that_kills_its_process_leaves_the_later_ones_to_the_next_start(ex
     (experiment.folder / "fixed").touch()
     assert experiment.run(program=program) == ended(60)
     assert set(experiment.searches().values()) == {1, 3}, "how often each run was begun"
-
-
-def states_of(group: int) -> set[bytes]:
-    """The states of the processes of a group."""
-    found = set[bytes]()
-    for path in pathlib.Path("/proc").glob("[0-9]*/stat"):
-        with contextlib.suppress(OSError):
-            state, _, its_group = path.read_bytes().rpartition(b")")[2].split()[:3]
-            found |= {state} if int(its_group) == group else set()
-    return found
-
-
-def test_a_process_whose_starter_is_killed_makes_no_further_run(experiment: Experiment) -> None:
-    """If GNU parallel is killed at once with its starter, nothing ends the processes, which have 8 runs each."""
-    with experiment.plan(MANY).gate() as let_through:
-        begun = experiment.start("--jobs", "2")
-        wait_until(lambda: len(experiment.started()) == 2, "two searches wait")
-        os.killpg(begun.pid, signal.SIGKILL)
-        begun.wait(60)
-        wait_until(lambda: states_of(begun.pid) <= {b"Z", b"X"}, "GNU parallel is gone")
-        let_through(60)
-        wait_until(lambda: experiment.left() == [], "the processes end")
-    assert len(experiment.started()) == len(experiment.done()) == 2
-    assert experiment.run() == ended(60)
 
 
 @pytest.mark.parametrize("number", [signal.SIGTERM, signal.SIGKILL])

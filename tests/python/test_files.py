@@ -346,15 +346,6 @@ def test_order_files(case: tuple[plainly.Table, list[int]], span: int) -> None:
     assert pfs.read_order(io.BytesIO(bare.to_text().encode())) == bare
 
 
-@pytest.mark.parametrize(("order", "span", "why"), [
-    ([0, 2], 1, "order: 2 at place 1 isn't a job: jobs are 0 to 1"),
-    ([1, 0, 1], 1, "order: job 1 occurs twice, at places 0 and 2"),
-    ([], 1, "out of its limits"), ([0], 10**18, "more than 18 digits")])
-def test_solutions_that_no_file_holds(order: list[int], span: int, why: str) -> None:
-    with pytest.raises(ValueError, match=why):
-        pfs.Solution(order, span).to_text()
-
-
 def test_taillards_instances_are_those_of_the_lists() -> None:
     """Their upper bounds are the best known makespans, each with its source. That of ta056 was proved optimal."""
     with pathlib.Path(pfs.__file__).with_name("taillard.csv").open() as file:

@@ -194,26 +194,12 @@ def test_a_call_that_is_left_behind_keeps_no_program_from_ending(tmp_path: Any) 
     assert (done.stdout, done.stderr, done.returncode) == ("False\n", "", 0) and time.monotonic() - begun < 20
 
 
-@pytest.mark.parametrize(("words", "kind", "why"), [
-    ({"prove": -1}, ValueError, "prove must be 0 or more seconds, not -1.0"),
-    ({"prove": float("nan")}, ValueError, "prove must be 0 or more seconds, not nan"),
-    ({"prove": "1"}, TypeError, "prove must be a number of seconds, not '1'"),
-    ({"prove": True}, TypeError, "prove must be a number of seconds, not True"),
-    ({"prove": 1, "hold": [0]}, ValueError, "prove needs a search without hold and move"),
-    ({"prove": 1, "move": [0]}, ValueError, "prove needs a search without hold and move"),
-    ({"seconds": -1}, ValueError, "seconds must be 0 or more seconds, not -1.0"),
-    ({"seconds": None}, TypeError, "seconds must be a number of seconds, not None")])
-def test_what_is_rejected(words: dict[str, Any], kind: type[Exception], why: str) -> None:
-    shop = pfs.taillard(1)
-    with pytest.raises(kind, match=f"^{why}$"):
-        shop.optimum(**words) if "seconds" in words else shop.solve(1, **words)
-
-
 def test_the_greatest_bound_is_kept() -> None:
     """A call from a shorter order may prove less than one before it."""
     shop = pfs.Instance([[3, 2], [2, 5], [4, 1]])
     proof = _proof.Proof(shop, shop.solve(0, start=[2, 1, 0]))
-    for bound, makespan, order in ((10, 12, [2, 1, 0]), (9, 10, [1, 0, 2]), (9, 10, [0, 1, 2])):
+    cases: list[tuple[int, int, Any]] = [(10, 12, [2, 1, 0]), (9, 10, [1, 0, 2]), (9, 10, [0, 1, 2])]
+    for bound, makespan, order in cases:
         call = _proof.Call(shop, bytes(12), 1)
         call.order[:], call.makespan.value, call.bound.value = order, makespan, bound
         proof.keep(call)

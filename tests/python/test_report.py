@@ -127,7 +127,7 @@ WORDS = [(4, "none.csv report", "none.csv: "), (3, "--width 0 out.csv report", "
 
 
 @pytest.mark.parametrize(("text", "status", "words", "said"), [
-    *((REPORTED.replace(*change), 2, "out.csv report", f"report: out.csv: {said}\n") for *change, said in BAD),
+    *((REPORTED.replace(old, new), 2, "out.csv report", f"report: out.csv: {said}\n") for old, new, said in BAD),
     *((REPORTED, *each) for each in WORDS)],
     ids=[*(f"{new[:9]!r}" for _, new, _ in BAD), *(words for _, words, _ in WORDS)])
 def test_what_is_refused_is_said_on_one_line_and_nothing_is_left(text: str, status: int, words: str, said: str,
@@ -183,7 +183,8 @@ def test_names_stay_in_their_cells_and_are_escaped(report: Reported, folder: pat
     for text in ("a|b", "&lt;img src=x&gt;", r"two\nlines", r"\x1b[31mred", "$x^^$", "\u200b_x_"):
         assert text in shown, f"{text} is in no picture"
     frame = pandas.DataFrame({"instance": "a", "makespan": range(10, 10 + len(ESCAPED)), "method": ESCAPED.keys()})
-    assert report(frame.to_csv(index=False)).status == 0
+    with mock.patch.object(typed, "plot"):
+        assert report(frame.to_csv(index=False)).status == 0
     head = (folder / "report" / "sizes.tex").read_text().splitlines()[3]
     assert sorted(head.removesuffix(r" \\").split(" & ")[1:]) == sorted(ESCAPED.values()), "names in sizes.tex"
 
@@ -656,11 +657,14 @@ def test_values_below_0_are_seen_and_long_legends_have_several_lines() -> None:
     figure = axes[0].figure
     figure.draw_without_rendering()
     box = axes[-1].get_legend().get_window_extent()
+    room = axes[-1].get_window_extent()
     assert 0 <= box.x0 and box.x1 <= figure.bbox.width and 0 <= box.y0, "inside of the picture"
+    assert abs(box.x0 + box.x1 - room.x0 - room.x1) < 2 and box.y1 > room.y1 - 9, "in the middle, at the top"
+    assert not any(line.get_clip_on() or line.get_zorder() <= 2.5 for line in axes[0].get_lines()), "whole points"
     assert axes[-1].get_legend()._ncols == 4, "as many as fit beside each other"
     bands = points_of(1, 1, 3).assign(low=-1.0, high=9.0)
     axis = reports.panels(bands, styles_of(1), 3, None, "x", "y", "title", "legend").axes[0]
-    assert axis.get_ylim()[0] < 0
+    assert axis.get_ylim()[0] < 0 < axis.collections[0].get_alpha() < 0.5 and axis.collections[0].get_linewidth() == 0
     assert {round(float(y), 6) for y in axis.collections[0].get_paths()[0].vertices[:, 1]} == {-1, 9}
 
 
@@ -782,8 +786,12 @@ def test_the_labels_of_differences_have_room(done: Callable[[str], Any]) -> None
         assert {axis.get_subplotspec().colspan.start for axis in axes} == {*range(columns)} and len(axes) == 4
         labels = [label.get_window_extent() for label in axes[0].get_yticklabels()]
         assert all(0 < upper.y0 - lower.y1 < 0.5 * inch for lower, upper in itertools.pairwise(labels)), width
+        marks = [[mark for mark in axis.get_xticklabels() if mark.get_visible() and mark.get_text()] for axis in axes]
+        assert [*map(bool, marks)] == [at + columns >= 4 for at in range(4)] and axes[0].get_ylim() == (-0.5, 2.5)
         panels = [axis.get_window_extent() for axis in axes]
-        assert sum(box.width for box in panels[:columns]) > 0.45 * figure.bbox.width and labels[0].x0 > 0
+        assert sum(box.width for box in panels[:columns]) > 0.45 * figure.bbox.width
+        texts = [text.get_window_extent() for text in (figure._suptitle, figure._supxlabel)]
+        assert all(0 < box.x0 and box.x1 < figure.bbox.width for box in [*texts, *labels])
 
 
 TEXTS = {"gap": "Gap to the bound: mean, and range over the seeds; gap to the lower bound, %; jobs×machines",

@@ -184,10 +184,36 @@ REJECTED: dict[Callable[[Any], object], list[tuple[Any, type[Exception], str]]] 
     lambda given: [SHOP.best_place([0], 1, ties=given), SHOP.insert_all([0], [1], ties=given)]: [
         ("last", ValueError, "ties must be 'first' or 'idle', not 'last'"), (None, TypeError, "ties must be")],
     pfs.from_frame: [(frame, TypeError, "frame must be a pandas DataFrame, not ") for frame in ([[1]], None)],
+    lambda given: pfs.from_frame(pytest.importorskip("pandas").DataFrame(given[0]), decimals=given[1]): [
+        (([[2.55]], 1), ValueError, "times: 25.5 at job 0, machine 0 isn't a whole number"),
+        (([[2.5]], 0), ValueError, "times: 2.5 at job 0"), (([[1.0, float("nan")]], 1), ValueError, "nan at job 0"),
+        (([[float("inf")]], 2), ValueError, "times: inf at job 0"), (([[-0.5]], 1), ValueError, "times: -5 at job 0"),
+        (([[2.50000009]], 1), ValueError, "isn't a whole number"), (([[1e9]], 1), ValueError, "isn't from 0 to"),
+        (([[1_000_000_001]], 0), ValueError, "isn't from 0 to 1,000,000,000"), (([[True]], 1), TypeError, "bool"),
+        (([["x"]], 1), TypeError, "times: x at job 0, machine 0 isn't a whole number"),
+        (([[1]], 10), ValueError, "decimals must be from 0 to 9, not 10"), (([[1]], True), TypeError, "decimals must")],
     SHOP.to_text: [("csv", ValueError, "layout must be 'taillard' or 'orlib', not 'csv'")],
     lambda words: pfs.read("x", *words): [
         ((0,), TypeError, "layout must be 'taillard', 'orlib' or 'matrix', not 0"),
         *((("orlib", block), ValueError, f"block must be from 1 to 1,000, not {block}") for block in (0, 1001))],
+    lambda given: pfs.Solution(*given).to_text(): [
+        (([0, 2], 1), ValueError, "order: 2 at place 1 isn't a job: jobs are 0 to 1"),
+        (([1, 0, 1], 1), ValueError, "order: job 1 occurs twice, at places 0 and 2"),
+        (([], 1), ValueError, "out of its limits"), (([0], 10**18), ValueError, "more than 18 digits")],
+    lambda words: pfs.audit([{"instance": "a", "makespan": 1, "order": "1"}], **words): [
+        ({"layout": "csv"}, ValueError, "^layout must be 'taillard', 'orlib', 'matrix', not 'csv'"),
+        *(({"shops": shops}, TypeError, "shops must be instances by their names")
+          for shops in ([1], {"a": 1}, {1: SHOP}))],
+    lambda calendar: pfs.Instance([[1]], unit="h").schedule([0]).to_csv(calendar=calendar): [
+        ("2026-11-30", TypeError, "calendar must be a Calendar, not '2026-11-30'")],
+    lambda words: SHOP.solve(1, **words): [
+        *(({"prove": value}, kind, f"^prove must be {why}$") for value, kind, why in (
+            (-1, ValueError, "0 or more seconds, not -1.0"), (float("nan"), ValueError, "0 or more seconds, not nan"),
+            ("1", TypeError, "a number of seconds, not '1'"), (True, TypeError, "a number of seconds, not True"))),
+        *(({"prove": 1, name: [0]}, ValueError, "^prove needs a search without hold and move$")
+          for name in ("hold", "move"))],
+    SHOP.optimum: [(-1, ValueError, "^seconds must be 0 or more seconds, not -1.0$"),
+                   (None, TypeError, "^seconds must be a number of seconds, not None$")],
     pfs.taillard: [(at, ValueError, f"number must be from 1 to 120, not {at}") for at in (0, 121)],
     lambda words: pfs.Instance(TIMES, **words): [
         ({"job_names": ["a"]}, ValueError, "^job_names has 1 names, but 3 are needed$"),

@@ -282,20 +282,6 @@ def test_a_frame_of_decimal_times(times: Any, decimals: int, due: list[list[int]
         assert pfs.from_frame(frame, decimals=1).times.tolist() == [[20, 40], [30, 50]], f"{dtype} isn't scaled"
 
 
-@pytest.mark.parametrize(("times", "decimals", "kind", "why"), [
-    ([[2.55]], 1, ValueError, "times: 25.5 at job 0, machine 0 isn't a whole number"),
-    ([[2.5]], 0, ValueError, "times: 2.5 at job 0"), ([[1.0, float("nan")]], 1, ValueError, "times: nan at job 0"),
-    ([[float("inf")]], 2, ValueError, "times: inf at job 0"), ([[-0.5]], 1, ValueError, "times: -5 at job 0"),
-    ([[2.50000009]], 1, ValueError, "isn't a whole number"),
-    ([[1_000_000_001]], 0, ValueError, "isn't from 0 to 1,000,000,000"), ([[1e9]], 1, ValueError, "isn't from 0 to"),
-    ([["x"]], 1, TypeError, "times: x at job 0, machine 0 isn't a whole number"), ([[True]], 1, TypeError, "bool"),
-    ([[1]], 10, ValueError, "decimals must be from 0 to 9, not 10"), ([[1]], True, TypeError, "decimals must be")])
-def test_frames_that_are_rejected(times: Any, decimals: Any, kind: type[Exception], why: str) -> None:
-    pandas = pytest.importorskip("pandas")
-    with pytest.raises(kind, match=why):
-        pfs.from_frame(pandas.DataFrame(times), decimals=decimals)
-
-
 def test_jobs_by_their_names() -> None:
     times = [[3, 2], [2, 5], [4, 1]]
     shop = pfs.Instance(times, job_names=["table", "chair", "box"])

@@ -405,7 +405,7 @@ def by_rounds(done: pd.DataFrame, value: str, name: str, title: str, width: floa
         return None
     levels = ["method", "passes", "take", *SIZE, "rounds"]
     zeros, later = runs[runs["rounds"] == 0].drop(columns=["take", "passes"]), runs[runs["rounds"] > 0]
-    runs = pd.concat([later, zeros.merge(runs[levels[:5]].drop_duplicates(), on=["method", *SIZE])])
+    runs = pd.concat([later, zeros.merge(runs[levels[:5]].drop_duplicates())])
     jobs, machines, rounds = (sorted(set(runs[column])) for column in levels[3:])
     takes, names = runs["take"].nunique(), kind_names(runs)
     seeds = runs.groupby([*levels, "seed"])[value].mean()
