@@ -145,7 +145,7 @@ def test_a_script_ends_where_a_step_fails(script: str, top: pathlib.Path, folder
         assert fails or told == printed
         assert script != "tools/test" or told.count(": failed with status 7\n") == bool(fails), told
     (folder / "ä b" / "crates" / "pfs" / "out" / "pfs").touch()
-    assert "tools/build|pfs|pfs_c" not in calls_of([script], top, folder, **git)[1], "the program is there"
+    assert "tools/build|pfs|pfs_c" not in calls_of([script], top, folder, 0, **git)[1], "the program is there"
 
 
 LIB = "tools/build|pfs_c; tools/library"
