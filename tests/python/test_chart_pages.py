@@ -256,7 +256,7 @@ LOOKS: dict[str, list[Look]] = {
             (1220, 128), (1236, 128), (860, 128), (740, 256), (836, 64))), dict(wide=828, last=64, dark=True),
         dict(first=64, last=192), dict(first=32, last=232, wide=500), dict(paper="A4", pixels=4)),
     "other shifts": looks(
-        Look(pfs.Instance([[4800, 0, 3000], [600, 24_000, 0], [1195, 7, 9], [1, 1, 0]], unit="min", decimals=1,
+        Look(pfs.Instance([[4800, 0, 3000], [600, 24_000, 0], [2400, 0, 9], [1, 1, 0]], unit="min", decimals=1,
                           job_names=[*"abcd"], machine_names=MACHINES).schedule([2, 0, 1, 3]),
              pfs.Calendar("2026-11-27T12:00:30", ["06:00-14:00", "fri:22:00-02:00"], "mon-fri", "2026-11-30"), True),
         {}, dict(first=3000, last=3040), dict(first=3000, last=3100), dict(first=4700, last=4710), dict(last=600)),
