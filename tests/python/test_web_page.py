@@ -1,7 +1,9 @@
 """The page for planners in a browser: a week of a planner, by a pointer and by the keyboard alone."""
+import base64
+import contextlib
+import difflib
 import io
 import json
-import os
 import pathlib
 import re
 from collections.abc import Callable, Iterator
@@ -9,8 +11,8 @@ from typing import Any
 
 import pytest
 from support.needs import require_module, tool
-from support.tools import TOP, wait_until
-from test_web_server import LONG, SHOP, Server, served
+from support.tools import wait_until
+from test_web_server import SHOP, Server, served
 
 for module in ("flask", "waitress", "selenium", "openpyxl"):
     require_module(module)
@@ -21,13 +23,23 @@ from selenium.webdriver.common.keys import Keys
 from selenium.webdriver.remote.webelement import WebElement
 from selenium.webdriver.support.ui import Select
 
-WEB = TOP / "python" / "src" / "pfs" / "web" / "static"
 pytestmark = [pytest.mark.seconds(40), pytest.mark.xdist_group("page")]
 SCRIPT = "<img src=x onerror=\"document.title='run'\">"
-# Times that no order of a second makes optimal, and faults as planners make them.
-MONDAY = [["Plan KW 49"], ["Auftrag", "Menge", "S\u00e4ge [min]", "Bohren [min]", "Lack [min]"],
-          ["A-1", 4, 30, 25, 40], ["A-2", 1, 20, "n/a", 15], ["A-3", 2, 40, 10, None], ["A-4", 3, "1.500", 10, 60],
-          [SCRIPT, 1, 25, 35, 20], ["A-6", 2, 15, 45, 30], ["Summe", None, 140, 125, 165]]
+# Faults as planners make them, and letters that aren't in UTF-8.
+WEEK: list[list[Any]] = [
+    ["Plan", "Stand 27.11."], ["Auftrag", "Menge", "S\u00e4ge [h]", "Bohren [h]", "Lack [h]"], ["Tisch", 4, 3, 2.5, 4],
+    ["Stuhl", 1, 2, "n/a", 1.5], ["Regal", 2, 4, 1], ["Kiste", 3, 1, "1.500", 6], ["Summe", None, 10, 5, 11.5]]
+LADEN = "Auftrag;S\u00e4ge;Bohren\nT\u00fcr;1,25;2\nTor;3;1,5\n"
+
+
+# Pastes a text; drags a file over the page or a row of it, or drops it.
+PASTE = """new ClipboardEvent("paste", {bubbles: true, clipboardData: Object.assign(new DataTransfer(), {
+  getData: kind => kind === "text/plain" ? arguments[1] : ""})}));"""
+DRAG = """const dataTransfer = new DataTransfer(), [kind, selector] = arguments;
+dataTransfer.items.add(new File(["job,saw\\nJ1,1\\nJ2,2\\n"], "dropped.csv"));
+const event = new DragEvent(kind, {dataTransfer, cancelable: true});
+if ((selector ? document.querySelector(selector) : window).dispatchEvent(event) && kind !== "dragleave")
+  throw new Error("the browser would open the file");"""
 
 
 class Page:
@@ -67,18 +79,10 @@ class Page:
 
     def wait(self, has_come: Callable[[], Any], what: str = "the page shows it") -> None:
         def without_faults() -> bool:
-            try:
+            with contextlib.suppress(Exception):
                 return bool(has_come())
-            except Exception:
-                return False
-        try:
-            wait_until(without_faults, what, 20)
-        finally:
-            self.shot("last")
-
-    def shot(self, name: str) -> None:
-        if folder := os.environ.get("PFS_SHOTS"):
-            self.browser.save_screenshot(f"{folder}/{name}.png")
+            return False
+        wait_until(without_faults, what, 20)
 
     def drop(self, name: str, content: bytes) -> None:
         """Choose a file."""
@@ -87,17 +91,14 @@ class Page:
         self.one("#file").send_keys(str(path))
 
     def paste(self, text: str) -> None:
-        self.browser.execute_script("""
-            const data = new DataTransfer();
-            data.setData("text/plain", arguments[0]);
-            window.dispatchEvent(new ClipboardEvent("paste", {clipboardData: data}));""", text)
+        self.browser.execute_script(f"window.dispatchEvent({PASTE}", "", text)
 
     def order(self) -> list[str]:
         return [each.text for each in self.all("#order td.name")]
 
     def logged(self) -> list[str]:
         """What the browser complains of: a script that the policy has forbidden, or one that failed."""
-        return [each["message"] for each in self.browser.get_log("browser") if "favicon" not in each["message"]]
+        return [each["message"] for each in self.browser.get_log("browser")]
 
 
 @pytest.fixture(scope="module")
@@ -119,95 +120,365 @@ def page(tmp_path_factory: pytest.TempPathFactory) -> Iterator[Page]:
             browser.quit()
 
 
-def monday() -> bytes:
+# Notes what the page asks, and says what is seen of it. What a search returns is up to the test.
+WATCH = r"""{
+Object.assign(window, {noted: [], busy: 0, late: null, fails: null, teller: null});
+const ownFetch = window.fetch, ownRead = FileReader.prototype.readAsDataURL;
+window.fetch = async (path, given = {}) => {
+  const name = path.replace("/api/", "");
+  noted.push([given.method, name, given.body ? JSON.parse(given.body) : {}]);
+  const failure = fails, wait = late;
+  fails = null;
+  if (failure && !failure[0]) throw new TypeError();
+  if (failure) return new Response(failure[2], {status: failure[0], headers: {"Content-Type": failure[1]}});
+  if (name === "search") return Response.json({search: "S"});
+  if (name === "search/S")
+    return Response.json(given.method === "GET" && await new Promise(done => { teller = done; }));
+  late = null;
+  busy += !wait;
+  const got = await ownFetch(path, given), content = await got.arrayBuffer();
+  await wait;
+  busy -= !wait;
+  return new Response(content, got);
+};
+FileReader.prototype.readAsDataURL = function (file) {
+  busy += 1;
+  this.addEventListener("loadend", () => { busy -= 1; });
+  ownRead.call(this, file);
+};
+HTMLAnchorElement.prototype.click = function () { noted.push(["save", this.download, {}]); };
+// Waits until nothing is under way but a search that asks again.
+window.idle = async () => {
+  for (let calm = 0; calm < 3; calm = busy || running && !teller ? 0 : calm + 1)
+    await new Promise(done => setTimeout(done, 10));
+};
+const SIGNS = ["wrong", "off", "held", "best", "moved", "over"], BLOCKS = "p, li, h1, h2, h3, tr, summary, label, div";
+const WORDS = ["type", "rows", "min", "max", "maxlength", "accept", "placeholder", "sandbox"];
+const wordsOf = (each, ...more) => [...more, ...WORDS].map(name => each.getAttribute(name))
+  .filter(word => word && word !== "text").join(" ");
+function controlOf(each) {
+  const words = each.dataset.key ? "" : wordsOf(each, "aria-label", "title");
+  const value = each.options ? [...each.options].map(one => one.text + "*".repeat(one.selected)).join("/") : each.value;
+  const text = each.type === "checkbox" ? (each.checked ? "[x]" : "[ ]") : each.matches("button")
+    ? `[${each.textContent}]` : `<${words && `${words}: `}${value ?? ""}>`;
+  const focus = each !== document.activeElement ? "" : each.type === "text" && each.selectionStart < each.selectionEnd
+    ? `!${each.selectionStart}-${each.selectionEnd}` : "!";
+  return each.matches("button[data-key]") && !focus ? "" : `${text}${each.disabled ? "(off)" : ""}${focus} `;
+}
+// What is seen, line by line, but for numbers, and for buttons of lists that haven't the focus.
+window.seen = () => {
+  const lines = [`${document.title} ${location.pathname}${location.hash}`];
+  let line = "";
+  const end = () => { lines.push(line.replace(/\s+/g, " ").replace(/ ?\| ?/g, "|").trim()); line = ""; };
+  const walk = node => {
+    if (node.nodeType === Node.TEXT_NODE) line += node.data;
+    if (!node.checkVisibility?.()) return;
+    if (node.matches(BLOCKS)) end();
+    if (node.matches(".number")) return;
+    if (node.matches("td + *, th + *")) line += "|";
+    line += SIGNS.filter(sign => node.classList.contains(sign)).map(sign => `{${sign}}`).join("");
+    if (node.role && node.textContent) line += `${node.role}: `;
+    if (node.matches("input, select, button, textarea, progress, iframe")) line += controlOf(node);
+    else node.childNodes.forEach(walk);
+    if (node.matches(BLOCKS)) end();
+  };
+  walk(document.body);
+  end();
+  return lines.filter(Boolean);
+};
+// What is said of a row's controls and texts.
+window.said = key => [...document.querySelector(`[data-key="${key}"]`).closest("tr").querySelectorAll("[title]")]
+  .map(each => [...new Set([each.ariaLabel, each.title]), wordsOf(each), each.matches("button") && each.textContent,
+                each.ariaInvalid === "true" && "invalid"].filter(Boolean).join(" | "));
+}"""
+
+
+def flat(value: Any, name: str = "") -> dict[str, Any]:
+    """The values of a request by their names, and the rows of a table by their lines."""
+    inner = value.items() if isinstance(value, dict) else value if name == "rows" else ()
+    return {path: found for key, each in inner for path, found in flat(each, str(key)).items()} or {name: value}
+
+
+class Play:
+    """Does the steps of a script. After :: is what the page asks (>), as its difference from the request before, and
+    what is seen: how many lines less (-), and the new ones (+); or what a question shows (=). After a step that begins
+    with ~ nothing is looked at."""
+
+    def __init__(self, page: Page, files: dict[str, bytes]) -> None:
+        run, place = page.browser.execute_script, "document.querySelector(arguments[0])"
+        self.page, self.files, self.run, self.seen, self.before = page, files, run, list[str](), dict[str, Any]()
+        self.verbs: dict[str, Callable[..., Any]] = {
+            "open": lambda: page.open("de"), "reload": page.browser.refresh, "click": page.click, "press": page.press,
+            "twice": lambda selector: run(f"const one = {place}; one.click(); one.click()", selector),
+            "set": lambda *given: run(f"const one = {place}; one.value = arguments[1]; "
+                                      "one.dispatchEvent(new Event('change', {bubbles: true}))", *given),
+            "fill": lambda: run("document.querySelectorAll('[placeholder]').forEach(each => { each.value = "
+                                "each.placeholder; })"),
+            "write": lambda key, text: page.write(page.key(key), text),
+            "type": lambda key, text: page.key(key).send_keys(Keys.CONTROL, "a", Keys.NULL, text),
+            "drop": self.drop,
+            "paste": lambda text: page.paste(text.replace("|", "\n")),
+            "drag": self.drag,
+            "tell": lambda told: run("const own = teller; teller = null; own(JSON.parse(arguments[0]))", told),
+            "into": lambda key: run(f"{place}.dispatchEvent({PASTE}", f"[data-key='{key}']", "a;b"),
+            "over": lambda kind, selector="": run(DRAG, kind, selector),
+            "late": lambda: run("late = new Promise(done => { window.come = done; })"),
+            "come": lambda: run("come()"),
+            "fail": lambda text: run("fails = arguments[0]", [int(text.split()[0]), *text.split(" ", 2)[1:]]),
+            "do": run, "row": lambda key: run("return said(arguments[0])", key),
+            "numbers": lambda: [each.text for each in page.all(".number")],
+            "headings": lambda: [each.text for each in page.all("h1, h2, #message") if each.is_displayed()]}
+
+    def drop(self, name: str) -> None:
+        self.page.drop(name, self.files[name])
+        self.page.wait(lambda: self.run("return noted.length"))
+
+    def drag(self, *names: str) -> None:
+        one, other = (each for name in names for each in self.page.all("#order .name") if each.text == name)
+        self.run("arguments[0].scrollIntoView({block: 'center'})", one)
+        webdriver.ActionChains(self.page.browser).drag_and_drop(one, other).perform()
+        self.page.wait(lambda: self.run("return noted.length"))
+
+    def asked(self) -> Iterator[str]:
+        """What the page has asked since the last step, each as its difference from the request before."""
+        for method, name, body in self.run("return noted.splice(0)"):
+            kind, now = ("shop" if "shop" in body else name), flat(body)
+            before = self.before.get(kind, {})
+            if "content" in now:
+                data = base64.b64decode(now["content"])
+                now["content"] = next((name for name, each in self.files.items() if each == data), "pasted")
+            changed = {path: value for path, value in now.items() if before.get(path, ...) != value}
+            texts = [f"{path}={json.dumps(value, ensure_ascii=False, separators=(',', ':'))}"
+                     for path, value in sorted(changed.items()) if body]
+            if body:
+                texts += [f"-{path}" for path in before if path not in now]
+                self.before[kind] = now
+            if method != "GET":
+                yield " ".join([f"> {method} {name}", *texts])
+
+    def step(self, line: str) -> Iterator[str]:
+        verb, _, words = line.removeprefix("~").partition(" ")
+        given = [words] if verb in ("do", "tell") else re.split(" = ?", words, maxsplit=1)[:2 * bool(words)]
+        found = self.verbs[verb](*given)
+        self.page.browser.execute_async_script("idle().then(arguments[0])")
+        yield from self.asked()
+        if isinstance(found, list):
+            yield f"= {' / '.join(filter(None, found))}"
+        elif not line.startswith("~"):
+            before, self.seen = self.seen, self.run("return seen()")
+            edits = difflib.SequenceMatcher(None, before, self.seen, autojunk=False).get_opcodes()
+            gone = sum(end - begin for kind, begin, end, _, _ in edits if kind != "equal")
+            come = [each for kind, _, _, begin, end in edits if kind != "equal" for each in self.seen[begin:end]]
+            if gone or come:
+                yield " ".join([f"-{gone}"] * (gone > 0) + [f"+ {' / '.join(come)}"] * (come != []))
+
+    def play(self, script: str) -> None:
+        for line in script.replace("\n    ", " ").splitlines():
+            step, _, due = line.partition(" :: ")
+            assert " ".join(self.step(step)) == due, step
+
+
+def workbook() -> bytes:
     import openpyxl
     book, out = openpyxl.Workbook(), io.BytesIO()
     book.active.title = "KW 49"
-    for row in MONDAY:
+    for row in WEEK:
         book.active.append(row)
-    book.create_sheet("Stammdaten").append(["nichts"])
+    book.create_sheet("Lager").append(["nichts"])
     book.save(out)
     return out.getvalue()
 
 
-def planned(page: Page) -> None:
-    page.click("#plan")
-    page.wait(lambda: page.one("#plan").is_enabled() and page.text("#ends"), "the search is done")
+def test_each_step_in_german(page: Page) -> None:
+    """What the page asks and shows after each step is as a person wrote it."""
+    script = pathlib.Path(__file__).with_name("page_in_german.txt").read_text("utf-8")
+    watch = page.browser.execute_cdp_cmd("Page.addScriptToEvaluateOnNewDocument", {"source": WATCH})
+    try:
+        Play(page, {"woche.xlsx": workbook(), "laden.csv": LADEN.encode("cp1252")}).play(script)
+    finally:
+        page.browser.execute_cdp_cmd("Page.removeScriptToEvaluateOnNewDocument", watch)
+    assert [" 422 " in each for each in page.logged()] == [True] * 3, "the plans without a beginning"
 
 
-def test_a_week(page: Page) -> None:
+# Looks at a list of many rows as it is scrolled, and at what gets the focus there.
+LIST = r"""
+const faults = [], done = arguments[0];
+const later = () => new Promise(next => requestAnimationFrame(() => setTimeout(next)));
+const check = (isTrue, ...what) => { if (!isTrue) faults.push(what.join(" ")); };
+let told = 0;
+(async () => {
+  const box = made("div", null, document.body, {className: "list"}), own = () => document.activeElement;
+  const list = listIn(box, at => {
+    const row = rowOf([`row ${at}`]);
+    const onblur = () => { told += !isDrawing; };
+    control("input", `k${at}`, "", row.lastChild, {type: "text", value: "old", onblur});
+    return row;
+  }, () => rowOf(["head"], null, "th"));
+  for (const count of [1, 40, 5000]) {
+    list.show(count);
+    check(Math.abs(box.scrollHeight - 32 * (count + 1)) < 3 && box.firstChild.ariaRowCount === `${count}`, "size");
+    for (const top of [0, 1, 383, 385, 416, 3001, 32 * count]) {
+      box.scrollTop = top;
+      await later();
+      const rows = [...box.querySelectorAll("tbody tr[aria-rowindex]")], places = rows.map(row => row.ariaRowIndex - 1);
+      const first = Math.floor(box.scrollTop / 32), last = Math.ceil((box.scrollTop + box.clientHeight) / 32) - 2;
+      check(places[0] === Math.max(0, first - 12) && places.length < 60
+            && places.at(-1) >= Math.min(count - 1, last + 11), "drawn", count, top, places);
+      check(rows.every((row, at) => row.offsetTop === 32 * (places[at] + 1)
+                                    && row.textContent === `row ${places[at]}`), "places", count, top);
+      for (const at of [first - 1, first, first + 1, last - 2, last, last + 1, 4000]) {
+        if (at < 0 || at >= count) continue;
+        box.scrollTop = top;
+        await later();
+        const before = box.scrollTop, field = list.reach(at, `k${at}`);
+        const [inner, outer] = [field ?? box, box].map(each => each.getBoundingClientRect());
+        check(field === own() && inner.top >= outer.top + 32 && inner.bottom <= outer.bottom, "reached", top, at);
+        check(at < first + 1 || at > last - 2 || box.scrollTop === before, "stays", top, at);
+      }
+    }
+  }
+  const field = list.reach(100, "k100");
+  field.value = "new";
+  field.setSelectionRange(1, 2);
+  box.scrollTop += 5;
+  await later();
+  check(field.isConnected, "is drawn again");
+  const silent = told;
+  list.show(5000);
+  check(told === silent, "what is typed isn't taken when the list is drawn");
+  check([own().value, own().selectionStart, own().selectionEnd].join() === "new,1,2", "keeps what is typed");
+  const top = box.scrollTop += 320, before = told;
+  await later();
+  check(told === before + 1, "what is typed is taken when it is scrolled away");
+  check(box.scrollTop === top && own().dataset.key === "k100" && list.reach(7, "none") === null, "jumps");
+  list.show(0);
+  check(box.hidden, "hidden");
+  for (const [number, name] of Object.entries({1: "A", 26: "Z", 27: "AA", 52: "AZ", 53: "BA", 702: "ZZ", 703: "AAA"}))
+    check(letters(Number(number)) === name, name);
+})().then(() => done(faults), error => done([String(error)]));"""
+
+
+def test_a_list_of_many_rows(page: Page) -> None:
+    """Its rows are where they belong, and what gets the focus is seen."""
     page.open()
-    # Before there is a table, nothing can be done with it.
-    shown = [each for each in page.all("input, select, button, textarea") if each.is_displayed()]
-    assert [each.get_attribute("id") for each in shown] == ["language", "file"]
-    page.drop("week.xlsx", monday())
-    # Monday: the faults are at their cells. One button chooses the machines; cells are mended, and a row left out.
-    page.wait(lambda: page.one("#suggest").is_displayed())
-    assert "S\u00e4ge" in page.text("#suggest") and "Menge" not in page.text("#suggest")
-    page.shot("faults")
-    page.click("#suggest")
-    page.wait(lambda: len(page.all("#faults li")) == 4)
-    page.write(page.key("6,3"), "10")
-    page.wait(lambda: len(page.all("#faults li")) == 3)
-    page.all("#faults button")[0].click()
-    assert page.browser.switch_to.active_element.get_attribute("data-key") == "4,4"
-    page.write(page.key("4,4"), "10")
-    page.wait(lambda: len(page.all("#faults li")) == 2)
-    page.write(page.key("5,5"), "0")
-    page.wait(lambda: len(page.all("#faults li")) == 1)
-    page.press("9,out")
-    page.wait(lambda: "6 jobs, 3 machines" in page.text("#read"))
-    # The plan, with dates.
-    page.click("#dates summary")
+    assert page.browser.execute_async_script(LIST) == []
+
+
+# What a planner would complain of, on the page as it is.
+LOOK = r"""
+const faults = [], all = selector => [...document.querySelectorAll(selector)].filter(each => each.checkVisibility());
+const check = (isTrue, what, each) => isTrue || faults.push([what, each.tagName, each.id, each.textContent]);
+const style = (each, name) => getComputedStyle(each)[name], box = each => each.getBoundingClientRect();
+const body = document.body, room = document.documentElement.clientWidth;
+const dark = matchMedia("(prefers-color-scheme: dark)");
+const over = (text, under) => {
+  const [red, green, blue, part = 1] = text.match(/[\d.]+/g).map(Number);
+  return [red, green, blue].map((each, at) => part * each + (1 - part) * under[at]);
+};
+const ground = (each, last = Array(3).fill(dark.matches ? 18 : 255)) => each
+  ? over(style(each, "backgroundColor"), ground(each.parentElement, last)) : last;
+const light = colour => colour.map(each => each / 255).reduce((sum, each, at) => sum + [.2126, .7152, .0722][at]
+  * (each < .04 ? each / 12.92 : ((each + .055) / 1.055) ** 2.4), .05);
+for (const each of all("body *")) {
+  const [one, other] = [light(over(style(each, "color"), ground(each))), light(ground(each))];
+  if (each.matches("input, textarea") || [...each.childNodes].some(node => node.nodeType === 3 && node.data.trim()))
+    check(Math.max(one / other, other / one) > 4.5, "hard to read", each);
+  check(box(each).right <= room && box(each).left >= 0 || each.closest("table, .list"), "outside", each);
+}
+for (const row of all("header, section div:not(.list), #options"))
+  [...row.children].filter(each => each.checkVisibility() && box(each).width).forEach((each, at, parts) => {
+    const own = box(each), next = parts[at + 1] && box(parts[at + 1]), isBelow = next && next.top >= own.bottom;
+    check(!next || (isBelow ? next.top - own.bottom : next.left - own.right) >= 7, "too close", each);
+    check(!next || isBelow || Math.abs(own.top + own.bottom - next.top - next.bottom) < 20, "not in line", each);
+  });
+const most = Math.min(room, 1230);
+// What is seen by these names: its width or height, from the least to the most.
+for (const [selector, side, least, greatest] of [
+    ["body", "width", most - 20, most], ["h1, h2, h3", "height", 20, 30],
+    [".list tr[aria-rowindex], .list thead tr", "height", 32, 32],
+    [".list, #faults", "height", 0, 361], ["iframe", "height", 400, 500],
+    ["section > *:not(table, h3)", "width", .9 * most - 27, most],
+    ["#order table", "width", .98 * all("#order")[0]?.clientWidth || 0, 5000],
+    ["#table td:first-of-type input", "width", 150, 200], ["#table td:not(:first-of-type) input", "width", 90, 130],
+    ["[type=number]", "width", 50, 80]])
+  for (const each of all(selector)) check(box(each)[side] >= least && box(each)[side] <= greatest, side, each);
+for (const [selector, name, due] of [
+    ["#plan, .best td", "fontWeight", "600"], ["#table .off input", "opacity", "0.5"],
+    [".number", "textAlign", "right"], ["td:not(.number), #faults button", "textAlign", "left"],
+    [".list td", "textOverflow", "ellipsis"],
+    ["#table [type=text]", "borderTopStyle", "none"], [".wrong", "outlineStyle", "solid"],
+    ["#drop", "borderTopStyle", "dashed"], ["#message", "whiteSpace", "pre-wrap"], ["h2", "borderBottomStyle", "solid"],
+    ["td, th", "borderLeftStyle", "solid"], ["body, input, select, button, textarea", "fontSize", "15px"],
+    ["input, select, button, textarea", "fontFamily", style(body, "fontFamily")]])
+  for (const each of all(selector)) check(style(each, name) === due, `${name} ${style(each, name)}`, each);
+for (const each of all(".held, .moved, .wrong")) check(`${ground(each)}` !== `${ground(body)}`, "not marked", each);
+for (const each of all(".list thead th")) check(!style(each, "backgroundColor").includes("a"), "is seen through", each);
+for (const each of all("#order .name")) for (const cell of each.parentElement.cells)
+  check(box(cell).width <= box(each).width, "wider than the name", cell);
+scrollTo(0, 300);
+for (const each of all("#message")) check(document.elementFromPoint(room / 2, 5) === each, "scrolled away", each);
+for (const each of all(".list thead th")) {
+  each.closest(".list").scrollTop = 100;
+  check(Math.abs(box(each).top - box(each.closest(".list")).top) < 2, "scrolled away", each);
+}
+scrollTo(0, 0);
+check(Math.abs(box(body).left + box(body).right - room) < 2, "not in the middle", body);
+for (const each of all("#language")) check(box(each).left > room / 2, "at the left", each);
+for (const each of all("#order .start")) check(room > 700, "not needed on a phone", each);
+return faults;"""
+
+
+@pytest.mark.parametrize(("wide", "colours"), [(1600, "light"), (1200, "dark"), (390, "light")])
+def test_nothing_is_hard_to_read(wide: int, colours: str, page: Page) -> None:
+    """On a large screen, in dark colours, and on a phone: before there is a table, with faults, and with a plan."""
+    send, run = page.browser.execute_cdp_cmd, page.browser.execute_script
+    send("Emulation.setDeviceMetricsOverride", {"width": wide, "height": 500, "deviceScaleFactor": 1,
+                                                "mobile": wide < 400})
+    send("Emulation.setEmulatedMedia", {"features": [{"name": "prefers-color-scheme", "value": colours}]})
+    try:
+        page.open("de")
+        assert run(LOOK) == []
+        page.drop("woche.xlsx", workbook())
+        page.wait(lambda: page.one("#suggest").is_displayed())
+        page.click("#suggest")
+        page.wait(lambda: page.all(".off"))
+        run("say('one\\ntwo')")
+        assert run(LOOK) == []
+        page.paste(TABLE)
+        page.wait(lambda: "12 Auf" in page.text("#read"))
+        for step, seen in (("doc.order = [...read.shop.jobs]; evaluate()", ".name"), ("byId('keep').click()", ".best"),
+                           ("move(5, 0, 'J6:up')", ".moved")):
+            run(step)
+            page.wait(lambda: page.all(f"section {seen}"), step)
+        page.press("J2:hold")
+        assert run(LOOK) == []
+    finally:
+        send("Emulation.clearDeviceMetricsOverride", {})
+        send("Emulation.setEmulatedMedia", {"features": []})
+
+
+def test_a_plan_is_searched_drawn_and_downloaded(page: Page) -> None:
+    """By the server. No name runs as a script."""
+    page.open()
+    jobs = [SCRIPT, *SHOP["jobs"][1:]]
+    rows = [["job [min]", *SHOP["machines"]], *([job, *map(str, times)] for job, times in zip(jobs, SHOP["times"]))]
+    page.paste("".join(";".join(row) + "\n" for row in rows))
+    page.wait(lambda: "30 jobs" in page.text("#read"))
+    Select(page.one("#seconds")).select_by_value("600")
     page.browser.execute_script("arguments[0].value = '2026-11-30T06:00'", page.one("#begin"))
-    page.write(page.one("#shifts"), "06:00-08:00")
-    Select(page.one("#seconds")).select_by_value("2")
-    planned(page)
-    assert re.search(r"^\d+ min, finished 2026-1\d-\d\d \d\d:\d\d; (optimal: no order|at most \d)", page.text("#ends"))
-    first = page.order()
-    assert len(first) == 6 and SCRIPT in first and page.browser.title == "Plan a flow shop"
+    for held in (0, 1):
+        page.click("#plan")
+        page.wait(lambda: re.search(r"so far, no order is below .+; 5\d\d s left$", page.text("#progress")))
+        page.click("#end")
+        page.wait(lambda: page.one("#plan").is_enabled() and len(page.order()) > 10)
+        assert sorted(page.browser.execute_script("return doc.order")) == sorted(jobs)
+        if not held:
+            first = page.order()[4]
+            page.press(f"{first}:first")
+        page.wait(lambda: page.order()[0] == first and len(page.all("#order tr.held")) == 1)
     page.browser.switch_to.frame(page.one("#chart"))
     assert page.one("canvas").size["width"] > 300, "the chart has its script and its style"
     page.browser.switch_to.default_content()
-    assert not page.one("#compared").is_displayed() and page.text("#machines tr.best td")
-    page.shot("plan")
-    # Tuesday: the plan is kept, and a job moved, by a button, by a place, and to the front.
-    page.click("#keep")
-    last = first[-1]
-    page.press(f"{last}:up")
-    page.wait(lambda: page.order() == [*first[:4], last, first[4]])
-    assert page.browser.switch_to.active_element.get_attribute("data-key") == f"{last}:up"
-    page.write(page.key(f"{last}:place"), "1")
-    page.wait(lambda: page.order() == [last, *first[:5]])
-    assert "moved" in page.one("#moves tbody tr:nth-child(2) td:last-child").get_attribute("class")
-    assert page.text("#plans tr:nth-child(2) td:nth-child(4)") == "1"
-    webdriver.ActionChains(page.browser).drag_and_drop(*page.all("#order td.name")[1:3]).perform()
-    page.wait(lambda: page.order() == [last, first[1], first[0], *first[2:5]])
-    page.click("#keep")
-    page.wait(lambda: len(page.all("#plans tr")) == 3)
-    spans, best = ([int(each.text.split()[0]) for each in page.all(f"#plans {rows} td:nth-child(2)")]
-                   for rows in ("tr", "tr.best"))
-    assert {*best} == {min(spans)} < {*spans}
-    page.press(f"{first[2]}:first")
-    page.wait(lambda: page.order()[0] == first[2] and page.all("#order tr.held"))
-    planned(page)
-    assert page.order()[0] == first[2], "what is held stays"
-    # A reload keeps all of it.
-    before = page.order(), page.text("#ends"), page.one("#shifts").get_attribute("value")
-    page.browser.refresh()
-    page.wait(lambda: (page.order(), page.text("#ends"), page.one("#shifts").get_attribute("value")) == before)
-    assert page.text("#plans tr.best td") == "Plan 1" and now_begins(page) == "2026-11-30 06:00"
-    assert page.one("#now").get_attribute("value") == "2026-11-30T06:00", "the rest is planned from the beginning on"
-    # From now on, with a machine that is down.
-    page.browser.execute_script("arguments[0].value = '2026-11-30T07:00'", page.one("#now"))
-    page.browser.execute_script("arguments[0].value = '2026-11-30T07:45'", page.all("#machines input")[1])
-    page.click("#rest")
-    page.wait(lambda: "finished" in page.text("#ends") and "left out" in page.text("#ends")
-              or "nothing is finished" in page.text("#ends"))
-    assert page.all("#order tr.held") and page.one("#begin").get_attribute("value").startswith("2026-11-30T07:00")
-    assert now_begins(page) >= "2026-11-30 07:00"
-    page.shot("rest")
-    # Downloads.
     page.write(page.one("#title"), "../S\u00e4ge 49")
     for kind, start in (("csv", b"\xef\xbb\xbfjob;machine"), ("xlsx", b"PK"), ("zip", b"PK"), ("html", b"<!DOCTYPE"),
                         ("pdf", b"%PDF"), ("txt", b"")):
@@ -216,7 +487,7 @@ def test_a_week(page: Page) -> None:
         page.wait(lambda: path.exists() and path.stat().st_size, f"{path} in {[*page.downloads.iterdir()]}")
         assert path.read_bytes().startswith(start)
     assert "../S\u00e4ge 49" in (page.downloads / "---S\u00e4ge 49.html").read_text("utf-8"), "a file has its title"
-    assert (page.downloads / "---S\u00e4ge 49.txt").read_text().splitlines() == page.order()
+    assert path.read_text().splitlines() == page.browser.execute_script("return doc.order")
     assert page.logged() == [] and page.browser.title == "Plan a flow shop", "no script of a name has run"
 
 
@@ -242,8 +513,6 @@ def test_by_the_keyboard_alone(page: Page) -> None:
     tab_to(lambda each: each.get_attribute("data-key") == "3,2")
     # Faster than the server reads what is written.
     webdriver.ActionChains(page.browser).send_keys("71", Keys.TAB, "73", Keys.TAB, Keys.TAB, "K3", Keys.ENTER).perform()
-    page.wait(lambda: page.browser.execute_script("return doc.rows.slice(2, 4).map(row => row[1].join())")
-              == ["J2,71,73", "K3,22,34"])
     page.wait(lambda: active().get_attribute("data-key") == "4,1" and page.browser.execute_script(
         "return read.shop.times[1].join() + read.shop.jobs[2]") == "71,73K3")
     tab_to(lambda each: each.get_attribute("id") == "plan").send_keys(Keys.ENTER)
@@ -258,193 +527,6 @@ def test_by_the_keyboard_alone(page: Page) -> None:
     assert page.logged() == []
 
 
-def test_a_search_is_ended_and_what_goes_wrong_is_shown(page: Page) -> None:
-    """A search of many jobs by Enough; a table without jobs; and another token."""
-    page.open()
-    rows = [["job", *SHOP["machines"]], *([job, *map(str, times)] for job, times in zip(SHOP["jobs"], SHOP["times"]))]
-    page.paste("".join(";".join(row) + "\n" for row in rows))
-    page.wait(lambda: "30 jobs" in page.text("#read"))
-    Select(page.one("#seconds")).select_by_value("600")
-    page.click("#plan")
-    page.wait(lambda: re.search(r"so far, no order is below .+; 5\d\d s left$", page.text("#progress")))
-    page.shot("progress")
-    page.click("#end")
-    page.wait(lambda: len(page.all("#order td.name")) > 10 and page.one("#plan").is_enabled())
-    page.paste("job" + "".join(f";M{at}" for at in range(2, 54)) + "\nJ" + ";1:3" * 52 + "\n")
-    page.wait(lambda: len(page.all("#faults button")) == 52 and not page.one("#message").is_displayed()
-              and not page.one("#plan").is_displayed())
-    cells = [each.text.split(":")[0] for each in page.all("#faults button")]
-    assert [cells[0], *cells[24:26], *cells[-2:]] == ["B2", "Z2", "AA2", "AZ2", "BA2"]
-    page.paste("job;saw\n")
-    page.wait(lambda: len(page.all("#faults button")) == 1)
-    page.all("#faults button")[0].click()
-    assert page.browser.switch_to.active_element.get_attribute("data-key") == "1,1", "the first cell of the row"
-    page.browser.execute_script("sessionStorage.setItem('token', 'wrong'); location.reload()")
-    page.wait(lambda: "token" in page.text("#message"))
-    assert [("403" in each or "422" in each) for each in page.logged()].count(False) == 0
-
-
-# Notes what the page asks. With `late`, the next response on a plan waits for it.
-NOTE = """
-window.noted = [];
-window.late = null;
-const own = window.fetch;
-window.fetch = async (path, given = {}) => {
-  const waits = ["/api/plan", "/api/read"].includes(path) ? window.late : null;
-  if (waits) window.late = null;
-  noted.push([given.method || "GET", path, given.body ? JSON.parse(given.body) : null]);
-  const answer = await own(path, given);
-  await waits;
-  return answer;
-};"""
-
-
-def test_what_the_page_asks_and_keeps(page: Page) -> None:
-    """After each thing that a planner does, the next request has what is on the page, and nothing of before."""
-    run = page.browser.execute_script
-
-    def asked(path: str) -> Any:
-        return run("return (noted.filter(each => each[1] === arguments[0]).at(-1) || [])[2]", path)
-
-    def change(selector: str, value: str) -> None:
-        run("arguments[0].value = arguments[1]; arguments[0].dispatchEvent(new Event('change', {bubbles: true}))",
-            page.one(selector), value)
-
-    press = page.press
-    page.open()
-    run(NOTE)
-    # A file is dropped, another one chosen, and chosen again when it has changed. An option holds for the next request.
-    run(DRAG, "dragover")
-    assert page.one("#drop").get_attribute("class") == "over"
-    run(DRAG, "dragleave")
-    assert not page.all(".over")
-    run(DRAG, "drop")
-    page.wait(lambda: page.text("#read").startswith("dropped.csv: 2 jobs") and not page.all(".over"))
-    run("window.late = new Promise(done => { window.come = done; })")
-    run(DRAG, "drop")
-    page.drop("chosen.csv", b"job,saw\nJ1,1\n")
-    page.wait(lambda: page.text("#read").startswith("chosen.csv: 1 jobs"))
-    page.browser.execute_async_script("come(); setTimeout(arguments[0], 100)")
-    assert page.text("#read").startswith("chosen.csv: 1 jobs"), "a file that is read for long replaces a later one"
-    page.drop("chosen.csv", TABLE.encode())
-    page.wait(lambda: "12 jobs" in page.text("#read"))
-    for name, value, due in (("unit", "min", "min"), ("decimal", ",", ","), ("decimals", "0", 0)):
-        change(f"#{name}", value)
-        page.wait(lambda: asked("/api/read")["options"][name] == due and page.text("#read")
-                  == "chosen.csv: 12 jobs, 2 machines (saw, drill), times in min, decimals: 0")
-    assert len(page.all("#table thead input")) == 2, "each machine has a tick"
-    # The table: machines are chosen and renamed, and a row is added. A field takes what is pasted into it.
-    press("3,machine")
-    page.wait(lambda: "1 machines (saw)" in page.text("#read") and asked("/api/read")["options"]["machines"] == ["saw"])
-    page.write(page.key("1,2"), "band")
-    page.wait(lambda: "1 machines (band)" in page.text("#read"))
-    page.click("#all")
-    page.wait(lambda: "2 machines (band, drill)" in page.text("#read"))
-    page.click("#add")
-    page.wait(lambda: "13 jobs" in page.text("#read"))
-    assert [line for line, _ in asked("/api/read")["rows"]] == [*range(1, 15)]
-    count = run("return noted.length")
-    run("""const data = new DataTransfer();
-        data.setData("text/plain", "x;y");
-        arguments[0].dispatchEvent(new ClipboardEvent("paste", {clipboardData: data, bubbles: true}));""",
-        page.key("3,2"))
-    assert run("return noted.length") == count
-    # A table that comes late replaces no later one.
-    run("window.late = new Promise(done => { window.come = done; })")
-    page.write(page.key("3,2"), "2")
-    page.write(page.key("3,3"), "4")
-    page.wait(lambda: run("return read.shop.times[1].join()") == "2,4")
-    page.browser.execute_async_script("come(); setTimeout(arguments[0], 100)")
-    assert run("return read.shop.times[1].join()") == "2,4"
-    assert {each.text: each.get_attribute("value") for each in Select(page.one("#seconds")).options} == {
-        "2 seconds": "2", "10 seconds": "10", "a minute": "60", "10 minutes": "600"}
-    # Two searches have different seeds. A bound of one table says nothing of another one.
-    Select(page.one("#seconds")).select_by_value("2")
-    planned(page)
-    seed = asked("/api/search")["seed"]
-    planned(page)
-    assert asked("/api/search")["seed"] != seed and run("return doc.least") > 0
-    page.write(page.key("3,2"), "1")
-    page.wait(lambda: asked("/api/read")["rows"][2][1][1] == "1" and asked("/api/plan")["least"] == 0)
-    # Plans that are kept come back with their dates, and the right one is forgotten.
-    for title, begin in (("one", "2026-11-30T06:00"), ("two", "2026-12-07T06:00")):
-        change("#title", title)
-        change("#begin", begin)
-        page.wait(lambda: now_begins(page).startswith(begin[:10]) and asked("/api/plan")["title"] == title)
-        page.click("#keep")
-    page.wait(lambda: len(page.all("#plans tr")) == 3 and len(asked("/api/plan")["kept"]) == 2)
-    press(f"{page.order()[0]}:hold")
-    page.click("#plans tr:nth-child(2) button")
-    page.wait(lambda: now_begins(page).startswith("2026-11-30") and not page.all("#order tr.held"))
-    press("0,forget")
-    page.wait(lambda: len(page.all("#plans tr")) == 2)
-    assert page.text("#plans tr:nth-child(2) td") == "two"
-    # A job that is renamed keeps its place. Where a place is none of a job, the field shows the old one again.
-    before = [each.replace("J12", "K12") for each in run("return doc.order")]
-    page.write(page.key("13,1"), "K12")
-    page.wait(lambda: page.order() == before)
-    place = f"{before[4]}:place"
-    for text in ("0", "14", "1.5", "-"):
-        page.write(page.key(place), text)
-        page.wait(lambda: page.key(place).get_attribute("value") == "5")
-    assert page.order() == before
-    # The third job is held with those before it. A response that comes late replaces no later one.
-    for count in (3, 2, 3):
-        press(f"{page.order()[2]}:hold")
-        page.wait(lambda: len(page.all("#order tr.held")) == count)
-    grounds = [row.value_of_css_property("background-color") for row in page.all("#order tr")[2:5]]
-    assert grounds[0] == grounds[1] != grounds[2], "what is held is marked"
-    before = page.order()
-    run("window.late = new Promise(done => { window.come = done; })")
-    press(f"{before[4]}:up")
-    press(f"{before[9]}:down")
-    moved = [*before[:3], before[4], before[3], *before[5:9], before[10], before[9], *before[11:]]
-    page.wait(lambda: page.order() == moved)
-    run("come()")
-    press(f"{moved[0]}:hold")
-    page.wait(lambda: not page.all("#order tr.held") and page.order() == moved)
-    # A search ends with its tab, and while it waits. With a held job none is proved optimal before.
-    press(f"{moved[0]}:hold")
-    page.click("#plan")
-    page.wait(lambda: page.one("#end").is_displayed())
-    run("window.dispatchEvent(new Event('pagehide'))")
-    page.wait(lambda: run("return noted.some(([method, path]) => method === 'DELETE' && path.startsWith('/api/sea'))")
-              and not page.one("#end").is_displayed())
-    names = [page.server.answer("/api/search", LONG)["search"] for _ in range(2)]
-    page.click("#plan")
-    page.wait(lambda: "waits for a processor, place 1" in page.text("#progress"))
-    page.click("#end")
-    page.wait(lambda: page.one("#plan").is_enabled() and not page.one("#end").is_displayed())
-    assert page.text("#message") == ""
-    for name in names:
-        page.server.answer(f"/api/search/{name}", method="DELETE")
-    press("2,out")
-    page.click("#add")
-    page.wait(lambda: "; left out, as the table lacks them: J1; new, and inserted where they are best: new 15"
-              in page.text("#ends"))
-    # A new table has no title of another one. What is too large isn't kept, nor what was kept before.
-    change("#decimal", ",")
-    run("Storage.prototype.setItem = () => { throw new Error('full'); }")
-    page.paste(TABLE)
-    page.wait(lambda: "too large to survive" in page.text("#read"))
-    assert run("return [sessionStorage.getItem('document'), byId('title').value, byId('decimal').value]") == [
-        None, "", ""]
-    page.browser.refresh()
-    Select(page.one("#language")).select_by_value("de")
-    page.wait(lambda: page.text("h1") == "Flie\u00dffertigung planen" and page.text("#read") == "")
-
-
-# Drags a file over the page, or drops it.
-DRAG = """const dataTransfer = new DataTransfer();
-dataTransfer.items.add(new File(["job,saw\\nJ1,1\\nJ2,2\\n"], "dropped.csv"));
-window.dispatchEvent(new DragEvent(arguments[0], {dataTransfer, cancelable: true}));"""
-
-
-def now_begins(page: Page) -> str:
-    """When the first job of the plan that is shown begins."""
-    return str(page.browser.execute_script("return now.jobs[0][1]"))
-
-
 def test_the_page_has_the_language_of_the_browser(page: Page) -> None:
     """At first, also where that is of a country."""
     agent = page.browser.execute_script("return navigator.userAgent")
@@ -455,70 +537,5 @@ def test_the_page_has_the_language_of_the_browser(page: Page) -> None:
         page.browser.refresh()
         page.wait(lambda: (page.one("html").get_attribute("lang"), page.one("#language").get_property("value"))
                   == (due, due))
-
-
-def test_in_german_on_a_phone(page: Page) -> None:
-    """Nothing is wider than the screen, and no text is left in English."""
-    page.browser.set_window_size(390, 800)
-    page.browser.execute_cdp_cmd("Emulation.setDeviceMetricsOverride",
-                                 {"width": 390, "height": 800, "deviceScaleFactor": 2, "mobile": True})
-    try:
-        page.open("de")
-        for rows, count in (("A;2;3\nA;x;1\n;2;2\nB;;\nSumme;9;9", 5), ("A;;1.000\nB;1:3;2\nC;3;#DIV/0!", 4)):
-            page.paste(f"Auftrag;S\u00e4ge;Bohren\n{rows}\n")
-            page.wait(lambda: len(page.all("#faults li")) == count)
-            assert re.findall(r"\b(?:the|is|isn't|may|has|too)\b", page.text("#faults")) == []
-        page.paste(TABLE)
-        page.wait(lambda: "12 Auftr\u00e4ge" in page.text("#read"))
-        planned(page)
-        assert page.text("#machines th") == "Maschine"
-        assert page.browser.execute_script("return document.documentElement.scrollWidth") <= 390
-        assert page.all("#order button")[0].is_displayed() and "geht es nicht" in page.text("#ends") + "geht es nicht"
-        page.shot("phone")
-        page.browser.execute_script("document.getElementById('order').scrollIntoView()")
-        page.shot("phone-order")
-    finally:
-        page.browser.execute_cdp_cmd("Emulation.clearDeviceMetricsOverride", {})
-        page.browser.set_window_size(1200, 1400)
-
-
-def test_each_text_of_the_page_is_there_in_german() -> None:
-    german = (WEB / "german.js").read_text("utf-8")
-    known = set(re.findall(r'^ +"((?:[^"\\]|\\.)*)":|, "((?:[^"\\]|\\.)*)":', german, re.MULTILINE))
-    keys = {json.loads(f'"{one or other}"') for one, other in known}
-    script, html = (WEB / "page.js").read_text("utf-8"), (WEB / "page.html").read_text("utf-8")
-    used = {json.loads(f'"{text}"') for text in re.findall(r'\btr\("([^"]+)"', script)}
-    for listed in re.findall(r'\[((?:"[^"]*"(?:,\s*)?)+)\]\.map\(text => tr\(text\)\)', script):
-        used |= set(re.findall(r'"([^"]+)"', listed))
-    body = re.sub(r"<(script|title)\b.*?</\1>", "", html.partition("<body>")[2], flags=re.DOTALL)
-    shown = {" ".join(text.split()) for text in re.findall(r">([^<]+)", body)}
-    shown |= set(re.findall(r'(?:aria-label|title)="([^"]+)"', body))
-    same = {"", "English", "Deutsch", "min", "h", "s", "0", "1", "2", "3", "Excel", "CSV", "PDF"}
-    assert sorted((used | shown) - keys - same) == []
-
-
-@pytest.mark.seconds(30)
-def test_five_thousand_jobs(page: Page) -> None:
-    """Only the rows that are seen are drawn. All can be reached, and so can a fault."""
-    page.open()
-    rows = "".join(f"J{at},{at * 37 % 997 + 1},{at * 53 % 991 + 1}\n" for at in range(5_000))
-    page.drop("large.csv", f"job,saw,drill\n{rows}".replace("\nJ4000,445,", "\nJ4000,x,").encode())
-    page.wait(lambda: page.all("#faults button"))
-    page.all("#faults button")[0].click()
-    page.browser.switch_to.active_element.send_keys(Keys.CONTROL, "a", Keys.NULL, "445")
-    # What is written is taken also when it is scrolled away, and the heads stay.
-    page.browser.execute_script("byId('table').scrollTop = 0")
-    page.wait(lambda: "5000 jobs" in page.text("#read"))
-    Select(page.one("#seconds")).select_by_value("2")
-    planned(page)
-    assert len(page.all("#table tbody tr")) < 100 and len(page.all("#order tbody tr")) < 100
-    page.browser.execute_script("byId('table').scrollTop = 500")
-    assert page.browser.execute_script("const box = byId('table').getBoundingClientRect(); return document"
-                                       ".elementFromPoint(box.left + 9, box.top + 9).closest('thead') !== null")
-    page.browser.execute_script("const box = byId('order'); box.scrollIntoView(); box.scrollTop = 2000 * 32")
-    row = """const {left, top} = byId("order").getBoundingClientRect();
-        return document.elementFromPoint(left + 300, top + 40).closest("tr").ariaRowIndex"""
-    page.wait(lambda: page.browser.execute_script(row) in ("2001", "2002", "2003"), "the rows of this place are drawn")
-    page.browser.execute_script("const box = document.getElementById('order'); box.scrollTop = box.scrollHeight")
-    page.wait(lambda: any(each.get_attribute("value") == "5000" for each in page.all("#order input[type=number]")))
-    assert page.logged() == []
+    Select(page.one("#language")).select_by_value("de")
+    page.wait(lambda: page.text("h1") == "Flie\u00dffertigung planen")

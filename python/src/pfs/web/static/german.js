@@ -1,8 +1,7 @@
-"use strict";
 // The texts of the page in German. What the server says of tables is translated by patterns; the rest of it is English.
 const GERMAN = {
   "Plan a flow shop": "Fließfertigung planen", "Language": "Sprache",
-  "This page needs JavaScript.": "Diese Seite braucht JavaScript.", "What is planned?": "Was wird geplant?",
+  "What is planned?": "Was wird geplant?",
   "An order of jobs for which all are finished early. It is the same on each machine: no job overtakes another.":
     "Eine Reihenfolge, in der alle Aufträge früh fertig sind. Sie ist auf jeder Maschine gleich: keiner überholt.",
   "Each job goes through the machines in the order of the columns, and may wait between two of them.":

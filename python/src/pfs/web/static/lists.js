@@ -1,4 +1,3 @@
-"use strict";
 // An element with a text, and its properties.
 function made(kind, text, parent, properties) {
   const element = Object.assign(document.createElement(kind), properties);
@@ -18,27 +17,27 @@ function rowOf(cells, parent, kind = "td", className = "") {
   cells.forEach((cell, at) => made(kind, cell, row, {className: at ? className : ""}));
   return row;
 }
-const HIGH = 32, MORE = 12;
+// The height of a row, and how many rows are drawn: a third of them before those that are seen.
+const HIGH = 32, DRAWN = 36;
 let isDrawing = false;
 // A list of many rows in a box, of which only those that are seen are drawn: `draw` makes a row. `head` makes the head.
 function listIn(box, draw, head) {
   const table = made("table", null, box), top = made("thead", null, table), body = made("tbody", null, table);
-  let count = 0, from = -1, to = -1;
-  const space = rows => made("tr", null, null, {className: "space", style: `height: ${rows * HIGH}px`});
+  let count, from;
+  const space = rows => made("tr", null, null, {style: `height: ${rows * HIGH}px`});
   function focusOn(key) {
     const found = box.querySelector(`[data-key="${CSS.escape(key)}"]`);
     if (found) found.focus({preventScroll: true});
     return found;
   }
   function update(isNew) {
-    const first = Math.max(0, Math.floor(box.scrollTop / HIGH) - MORE);
-    const last = Math.min(count, first + Math.ceil((box.clientHeight || 400) / HIGH) + 2 * MORE);
-    if (!isNew && first === from && last === to) return;
+    const first = Math.max(0, Math.floor(box.scrollTop / HIGH) - DRAWN / 3), last = Math.min(count, first + DRAWN);
+    if (!isNew && first === from) return;
     const own = document.activeElement, key = box.contains(own) ? own.dataset.key : undefined;
     const [typed, start, end] = own.type === "text" ? [own.value, own.selectionStart, own.selectionEnd] : [];
     // A field that loses the focus tells its change.
     if (key !== undefined && !isNew) own.blur();
-    [from, to] = [first, last];
+    from = first;
     const rows = Array.from({length: last - first}, (_, at) => draw(first + at));
     rows.forEach((row, at) => { row.ariaRowIndex = first + at + 1; });
     isDrawing = true;

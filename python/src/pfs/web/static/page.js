@@ -1,4 +1,3 @@
-"use strict";
 const byId = id => document.getElementById(id);
 const token = location.hash.slice(1) || sessionStorage.getItem("token") || "";
 sessionStorage.setItem("token", token);
@@ -7,7 +6,7 @@ const MOST = 6e6, TOO_LARGE = tr("The table is too large: 6 MB are the most.");
 // The document, which survives a reload. What the server said of its table and of its plan, and the search that runs.
 const blank = name => ({name, delimiter: ",", rows: [], texts: null, machines: [], order: null, held: 0, least: 0,
                         plans: [], seed: 0, controls: {}});
-let doc = blank(""), content = null, read = null, now = null, running = null, asked = 0, readings = 0;
+let doc = blank(""), asked = 0, readings = 0, content, read, now, running;
 
 async function ask(path, body, method = body ? "POST" : "GET") {
   const headers = {"X-Pfs-Token": token, ...(body && {"Content-Type": "application/json"})};
@@ -55,7 +54,8 @@ async function open() {
   const turn = ++readings, found = await ask("/api/read", {content, name: doc.name, options: options()});
   if (turn !== readings) return;
   doc = {...doc, rows: found.rows, delimiter: found.delimiter, texts: found.texts, order: null, held: 0};
-  byId("sheet").replaceChildren(...found.sheets.map(name => new Option(name, name, false, name === found.sheet)));
+  byId("sheet").replaceChildren(...found.sheets.map(name => new Option(name, name)));
+  byId("sheet").value = found.sheet;
   show(found);
 }
 async function again() {
@@ -66,7 +66,7 @@ function show(found) {
   // What was proved of another table says nothing of this one.
   if (read && JSON.stringify(read.shop) !== JSON.stringify(found.shop)) doc.least = 0;
   // The row of the names is the first one that has the machines, or more than one name.
-  read = {...found, wide: doc.rows.reduce((most, [, row]) => Math.max(most, row.length), 1),
+  read = {...found, wide: Math.max(...doc.rows.map(([, row]) => row.length)),
     wrong: new Map(found.faults.map(each => [`${each.line},${each.column}`, fault(each.text)])),
     head: doc.rows.find(([, row]) => doc.machines.length ? doc.machines.every(each => row.slice(1).includes(each))
                                                          : row.slice(1).filter(Boolean).length > 1)};
@@ -159,9 +159,14 @@ window.addEventListener("paste", event => {
 
 // 2 The search
 const calendar = ({begin, shifts, days, closed} = controls()) => ({begin, shifts, days, closed});
-const plan = more => ({shop: read.shop, order: doc.order, held: doc.held, least: doc.least, calendar: calendar(),
+// How many jobs are held, without those that the table lacks.
+function heldNow() {
+  const jobs = new Set(read.shop.jobs);
+  return (doc.order || []).slice(0, doc.held).filter(each => jobs.has(each)).length;
+}
+const plan = more => ({shop: read.shop, order: doc.order, held: heldNow(), least: doc.least, calendar: calendar(),
                        language, kept: doc.plans.map(each => each.order),
-                       title: byId("title").value || doc.name.slice(0, 200), ...more});
+                       title: byId("title").value || doc.name, ...more});
 byId("plan").onclick = doing(async () => {
   const {shop} = read;
   byId("plan").disabled = true;
@@ -172,7 +177,7 @@ byId("plan").onclick = doing(async () => {
       told = await ask(`/api/search/${running.search}`);
       if (!running) return;
       running.isWaiting = told.place > 0;
-      byId("bar").value = told.seconds / (told.limit || 1);
+      byId("bar").value = told.seconds / told.limit;
       byId("progress").textContent = running.isWaiting ? tr("waits for a processor, place {place}", told) :
         tr("{makespan} so far, no order is below {bound}; {left} s left", {...told,
           left: Math.max(0, Math.ceil(told.limit - told.seconds))});
@@ -205,9 +210,8 @@ window.addEventListener("pagehide", () => running && fetch(`/api/search/${runnin
 async function evaluate() {
   if (!doc.order || !read.shop) return;
   const turn = ++asked, found = await ask("/api/plan", plan());
-  if (turn !== asked) return;
-  [now, doc.order] = [found, found.jobs.map(([name]) => name)];
-  doc.held = Math.min(doc.held, doc.order.length);
+  if (turn !== asked || !read.shop) return;
+  [now, doc.held, doc.order] = [found, heldNow(), found.jobs.map(([name]) => name)];
   byId("three").hidden = false;
   const others = [[now.gone, tr("left out, as the table lacks them:")],
     [now.new, tr("new, and inserted where they are best:")]].filter(([names]) => names.length);
@@ -215,7 +219,7 @@ async function evaluate() {
     ? tr("optimal: no order is shorter") : tr("at most {above} % above the shortest: no order is below {bound}", now),
     ...others.map(([names, text]) => `${text} ${names.join(", ")}`)].join("; ");
   byId("chart").srcdoc = now.chart;
-  byId("now").value ||= now.end && now.jobs[0][1].replace(" ", "T").slice(0, 16);
+  byId("now").value ||= now.end && now.jobs[0][1];
   byId("machines").replaceChildren(rowOf([...now.heads, tr("down until")], null, "th"));
   for (const each of now.machines) {
     const row = rowOf(each, byId("machines"), "td", "number");
@@ -270,7 +274,6 @@ for (const button of document.querySelectorAll("[data-kind]")) button.onclick = 
   const {kind} = button.dataset, href = URL.createObjectURL(await ask("/api/file", plan({kind})));
   const stem = (byId("title").value || "plan").replace(/[^\p{L}\p{N} _-]/gu, "-").slice(0, 80);
   made("a", null, null, {href, download: `${stem}.${kind}`}).click();
-  setTimeout(() => URL.revokeObjectURL(href), 60_000);
 });
 
 // What is left of the plan
