@@ -3,8 +3,11 @@ tests/python/test_web_server.py starts it, and test_web_page.py looks at the pag
 import base64
 import binascii
 import copy
+import functools
 import io
+import itertools
 import json
+import operator
 import os
 import pathlib
 import random
@@ -165,67 +168,44 @@ def test_the_page_asks_for_nothing_from_elsewhere_and_makes_no_html_of_texts() -
 
 # What isn't a request
 
-OPTIONS: dict[str, Any] = {"unit": "", "decimal": None, "totals": False, "machines": None, "delimiter": ";"}
-WRONG: dict[str, tuple[str, Any]] = {
-    "no object": ("/api/read", []), "a text": ("/api/plan", "shop"), "null": ("/api/search", None),
-    "no rows": ("/api/read", {}), "rows of another form": ("/api/read", {"rows": [["1", ["a"]]]}),
-    "a row twice": ("/api/read", {"rows": [[1, ["a"]], [1, ["b"]]]}),
-    "a line beyond spreadsheets": ("/api/read", {"rows": [[2**20 + 1, ["a"]]]}),
-    "a truth as a line": ("/api/read", {"rows": [[True, ["a"]]]}),
-    "cells that are numbers": ("/api/read", {"rows": [[1, ["a", 1]]]}),
-    "half a letter": ("/api/read", {"rows": [[1, ["\ud800"]]]}),
-    "no base64": ("/api/read", {"content": "%%%"}), "content that is a list": ("/api/read", {"content": []}),
-    "another delimiter": ("/api/read", {"rows": [], "options": {"delimiter": "|"}}),
-    "machines that are a text": ("/api/read", {"rows": [], "options": {"machines": "saw"}}),
-    "a place of a text that isn't one": ("/api/read", {"rows": [], "options": {"texts": [[1, True]]}}),
-    "no shop": ("/api/plan", {}), "a shop that is a list": ("/api/plan", {**PLAN, "shop": []}),
-    "times that are texts": ("/api/plan", {**PLAN, "shop": {**SHOP, "times": [["1", 2, 3]] * 4}}),
-    "times that are broken": ("/api/plan", {**PLAN, "shop": {**SHOP, "times": [[1.5, 2, 3]] * 4}}),
-    "truths as times": ("/api/plan", {**PLAN, "shop": {**SHOP, "times": [[True, 2, 3]] * 4}}),
-    "decimals below 0": ("/api/plan", {**PLAN, "shop": {**SHOP, "decimals": -1}}),
-    "names that are numbers": ("/api/plan", {**PLAN, "shop": {**SHOP, "jobs": [1, 2, 3, 4]}}),
-    "an order that is a text": ("/api/plan", {**PLAN, "order": "box"}),
-    "more held than there are": ("/api/plan", {**PLAN, "held": 5}),
-    "a title that is a list": ("/api/plan", {**PLAN, "title": []}),
-    "dates that are numbers": ("/api/plan", {**PLAN, "calendar": {"begin": 1}}),
-    "no kind": ("/api/file", PLAN), "a kind that is a path": ("/api/file", {**PLAN, "kind": "../../etc/cron.d/x"}),
-    "a kind that is a list": ("/api/file", {**PLAN, "kind": []}),
-    "seconds below 0": ("/api/search", {**PLAN, "seconds": -1}),
-    "a broken seed": ("/api/search", {**PLAN, "seed": 0.5}), "too many held": ("/api/search", {**PLAN, "held": 5}),
-    "machines down as a list": ("/api/rest", {**PLAN, "at": "2026-12-01T10:00", "down": ["saw"]}),
-}
+# What is asked, and what isn't as in a plan.
+WRONG: list[tuple[str, Any]] = [
+    ("read", {}), ("read", {"rows": [[1]]}), ("read", {"rows": [[0, ["a"]]]}), ("read", {"rows": [[2**20 + 1, ["a"]]]}),
+    ("read", {"rows": [[1, ["a"]], [1, ["b"]]]}), ("read", {"rows": [[1, ["\ud800"]]]}), ("read", {"content": "%%%"}),
+    ("read", {"rows": [], "options": {"delimiter": "|"}}), ("read", {"rows": [], "options": {"texts": [[1, 1, 1]]}}),
+    ("plan", {"shop": None}), ("plan", {"order": None}), ("plan", {"shop": {**SHOP, "decimals": -1}}),
+    ("plan", {"shop": {**SHOP, "decimals": 10}}), ("plan", {"held": 5}), ("plan", {"least": 2**53 + 1}), ("file", {}),
+    ("file", {"kind": "../../etc/cron.d/x"}), ("search", {"seconds": -1}), ("search", {"held": 5}),
+    ("search", {"seed": 2**53 + 1})]
 
 
-@pytest.mark.parametrize("what", WRONG)
-def test_another_form_is_refused(client: FlaskClient, what: str) -> None:
-    path, body = WRONG[what]
-    assert refused(client, path, body) == (400, "the request has another form than those of this server's page")
+@pytest.mark.parametrize(("path", "more"), WRONG)
+def test_another_form_is_refused(path: str, more: Any, client: FlaskClient) -> None:
+    assert refused(client, f"/api/{path}", {**PLAN, **more}) \
+        == (400, "the request has another form than those of this server's page")
 
 
-REST = {**PLAN, "at": "2026-12-01T10:00"}
-TELLS: dict[str, tuple[str, Any, str]] = {
-    "ragged": ("/api/plan", {**PLAN, "shop": {**SHOP, "times": [[1, 2, 3], [1, 2], [1, 2, 3], [1, 2, 3]]}}, "times"),
-    "a time below 0": ("/api/plan", {**PLAN, "shop": {**SHOP, "times": [[-1, 2, 3]] * 4}}, "times"),
-    "a job twice": ("/api/plan", {**PLAN, "shop": {**SHOP, "jobs": ["a", "a", "b", "c"]}}, "'a' occurs twice"),
-    "no such day": ("/api/plan", {**PLAN, "calendar": {**DATES, "begin": "2026-02-30T06:00"}}, "2026-02-30"),
-    "another shift": ("/api/plan", {**PLAN, "calendar": {**DATES, "shifts": "6 to 14"}}, "is not a shift"),
-    "shifts alone": ("/api/plan", {**PLAN, "calendar": {**DATES, "begin": ""}}, '"Shifts" needs "Work begins"'),
-    "no unit": ("/api/plan", {**PLAN, "shop": {**SHOP, "unit": ""}}, "the times have no unit"),
-    "long dates": ("/api/plan", {**PLAN, "calendar": {**DATES, "closed": "2026-12-24," * 2_000}}, "too long"),
-    "calendars without dates": ("/api/file", {**PLAN, "calendar": {}, "kind": "zip"}, 'needs "Work begins"'),
-    "a rest without dates": ("/api/rest", {**PLAN, "calendar": {}, "at": "2026-12-01T10:00"}, '"Now" needs "Work'),
-    "before the beginning": ("/api/rest", {**PLAN, "at": "2026-11-29T10:00"}, 'is before "Work begins"'),
-    "all is finished": ("/api/rest", {**PLAN, "at": "2027-11-29T10:00"}, "finished"),
-    "no such machine": ("/api/rest", {**REST, "down": {"x": "2026-12-02T10:00"}}, "\"down until\": 'x' isn't"),
-    "up again": ("/api/rest", {**REST, "down": {"saw": "2026-12-01T09:00"}}, "'saw' is up"),
-    "another decimal sign": ("/api/read", {"rows": [], "options": {**OPTIONS, "decimal": "x"}}, "decimal must"),
-}
+AT = {"at": "2026-12-01T10:00"}
+TELLS: list[tuple[str, Any, str]] = [
+    ("plan", {"shop": {**SHOP, "times": [[1, 2, 3], [1, 2], [1, 2, 3], [1, 2, 3]]}}, "times"),
+    ("plan", {"shop": {**SHOP, "times": [[-1, 2, 3]] * 4}}, "times"),
+    ("plan", {"shop": {**SHOP, "jobs": ["a", "a", "b", "c"]}}, "'a' occurs twice"),
+    ("plan", {"calendar": {**DATES, "begin": "2026-02-30T06:00"}}, "2026-02-30"),
+    ("plan", {"calendar": {**DATES, "shifts": "6 to 14"}}, "is not a shift"),
+    ("plan", {"calendar": {**DATES, "begin": ""}}, '"Shifts" needs "Work begins"'),
+    ("plan", {"shop": {**SHOP, "unit": ""}}, "the times have no unit"),
+    ("plan", {"calendar": {**DATES, "closed": "2026-12-24," * 2_000}}, "too long"),
+    ("file", {"calendar": {}, "kind": "zip"}, 'a calendar needs "Work begins"'),
+    ("rest", {**AT, "calendar": {}}, '"Now" needs "Work'),
+    ("rest", {"at": "2026-11-29T10:00"}, 'is before "Work begins"'), ("rest", {"at": "2027-11-29T10:00"}, "finished"),
+    ("rest", {**AT, "down": {"x": "2026-12-02T10:00"}}, "\"down until\": 'x' isn't"),
+    ("rest", {**AT, "down": {"saw": "2026-12-01T09:00"}}, "'saw' is up"),
+    ("read", {"rows": [], "options": {"decimal": "x"}}, "decimal must")]
 
 
-@pytest.mark.parametrize("what", TELLS)
-def test_what_a_planner_can_change_is_told(client: FlaskClient, what: str) -> None:
-    path, body, said = TELLS[what]
-    status, error = refused(client, path, body)
+@pytest.mark.parametrize(("path", "more", "said"), TELLS)
+def test_what_a_planner_can_change_is_told(path: str, more: Any, said: str, client: FlaskClient) -> None:
+    status, error = refused(client, f"/api/{path}", {**PLAN, **more})
     assert status == 422 and said in error
 
 
@@ -265,42 +245,61 @@ def leaves(value: Any, path: tuple[Any, ...] = ()) -> Iterator[tuple[Any, ...]]:
         yield from leaves(each, (*path, key))
 
 
-VALUES: list[Any] = [None, True, -1, 0, 2**70, 1e400, 0.5, "", "\ud800", "a" * 300, [], [[]], {}, [None],
-                     {"a": 1}]
+VALUES: list[Any] = [None, True, -1, 0, 2**70, 1e400, 0.5, "", "\ud800", "a" * 300, [], [[]], {}, [None], {"a": 1}]
+OPTIONS: dict[str, Any] = {"unit": "h", "decimal": ",", "totals": True, "machines": ["saw"], "delimiter": ";",
+                           "decimals": 1, "texts": [[2, 2]]}
 REQUESTS: list[tuple[str, dict[str, Any]]] = [
-    ("/api/read", {"rows": [[1, ["job", "saw"]], [2, ["a", "1"]]], "options": {**OPTIONS, "decimals": 1,
-                                                                               "texts": [[2, 2]]}}),
-    ("/api/read", {"content": content(TABLE), "name": "x", "options": {"sheet": None}}), ("/api/plan", PLAN),
-    ("/api/file", {**PLAN, "kind": "csv"}), ("/api/search", {**PLAN, "seconds": 0, "seed": 1}),
+    ("/api/read", {"rows": [[1, ["job", "saw"]], [2, ["a", "1"]]], "options": OPTIONS}),
+    ("/api/read", {"content": content(TABLE), "name": "x", "options": {"unit": "h", "sheet": "a"}}),
+    ("/api/plan", {**PLAN, "kept": [ORDER], "least": 1, "language": "de"}), ("/api/file", {**PLAN, "kind": "csv"}),
+    ("/api/search", {"shop": SHOP, "order": ORDER, "held": 0, "seconds": 0, "seed": 1}),
     ("/api/rest", {**PLAN, "at": "2026-12-01T10:00", "down": {"saw": "2026-12-01T12:00"}})]
 
 
 @pytest.mark.seconds(5)
-@given(st.data())
-def test_no_value_at_any_place_is_a_fault_of_the_server(data: st.DataObject) -> None:
+@pytest.mark.parametrize(("path", "body"), REQUESTS)
+def test_no_value_at_any_place_is_a_fault_of_the_server(path: str, body: dict[str, Any]) -> None:
+    """One of another kind is of another form; null stands for what is missing."""
     found = searches.Searches(1)
     client = client_here(found)
-    for path, body in REQUESTS:
-        place = data.draw(st.sampled_from([*leaves(body)]))
-        changed = copy.deepcopy({"": body})
-        at: Any = changed
-        for key in ("", *place)[:-1]:
-            at = at[key]
-        at[("", *place)[-1]] = data.draw(st.sampled_from(VALUES))
+    for place, value in itertools.product(leaves(body), VALUES):
+        changed: Any = {"": copy.deepcopy(body)}
+        way: list[Any] = ["", *place]
+        at = functools.reduce(operator.getitem, way[:-1], changed)
+        is_other, at[way[-1]] = type(value) not in (type(None), type(at[way[-1]])), value
         status, error = refused(client, path, changed[""])
-        assert status in (200, 400, 422, 429, 503), f"{path} with {changed['']}: {error}"
+        assert status in ([400] if is_other else [200, 400, 422, 429, 503]), f"{place}: {value}: {error}"
     found.end_all()
 
 
 # Tables
 
-def test_a_file_is_read_with_its_rows(client: FlaskClient) -> None:
-    got = read(client, TABLE)
-    assert got["shop"] == SHOP and got["faults"] == [] and got["delimiter"] == ";"
-    assert got["rows"][1] == [2, ["table", "3", "2,5", "4"]]
-    for delimiter in (";", "\t"):
-        again = answer(client, "/api/read", {"rows": got["rows"], "options": {"delimiter": delimiter}})
-        assert again["shop"] == SHOP
+HEAD, ONE, TWO = [1, ["job", "saw", "drill"]], [2, ["a", "1", "2"]], [3, ["b", "3", "4"]]
+AS_READ: dict[str, Any] = {"faults": [], "more": 0, "suggested": [], "rounded": "", "shop": {
+    "jobs": ["a", "b"], "machines": ["saw", "drill"], "unit": "", "decimals": 0, "times": [[1, 2], [3, 4]]}}
+
+
+@pytest.mark.parametrize(("rows", "options", "shop", "rounded"), [
+    ([HEAD, ONE, TWO], {}, {}, ""), ([HEAD, ONE, TWO], {"unit": "min"}, {"unit": "min"}, ""),
+    ([HEAD, ONE, TWO], {"machines": ["drill"]}, {"machines": ["drill"], "times": [[2], [4]]}, ""),
+    ([HEAD, ONE, [3, ["sum", "3", "4"]]], {"totals": True}, {"jobs": ["a", "sum"]}, ""),
+    ([HEAD, ONE, [3, ["b", "3", "4.000"]]], {"decimal": ",", "delimiter": "\t"}, {"times": [[1, 2], [3, 4000]]}, ""),
+    ([HEAD, ONE, [3, ["b", "3", "4.000"]]], {"decimal": "", "texts": None}, {}, ""),
+    ([HEAD, ONE, [3, ["b", "3", "4.25"]]], {"decimals": 1}, {"decimals": 1, "times": [[10, 20], [30, 43]]},
+     "1 time rounded to 1 decimal, by 0.05 at most (C3: 4.25)"),
+    ([[2, HEAD[1]], [4, ONE[1]], [9, TWO[1]]], {"delimiter": ";"}, {}, "")])
+def test_rows_are_read_with_options(rows: Any, options: Any, shop: Any, rounded: str, client: FlaskClient) -> None:
+    assert answer(client, "/api/read", {"rows": rows, "options": options}) \
+        == {**AS_READ, "shop": {**AS_READ["shop"], **shop}, "rounded": rounded}
+
+
+@pytest.mark.parametrize("code", ["utf-8", "cp1252"])
+def test_a_file_is_read_with_its_rows(code: str, client: FlaskClient) -> None:
+    table = TABLE.replace("box", "K\u00fcche")
+    assert read(client, table.encode(code)) == {
+        **AS_READ, "shop": {**SHOP, "jobs": [*SHOP["jobs"][:3], "K\u00fcche"]}, "delimiter": ";", "texts": None,
+        "sheets": [], "sheet": None, "isOther": code == "cp1252",
+        "rows": [[line, row.split(";")] for line, row in enumerate(table.splitlines(), 1)]}
 
 
 def test_faults_name_their_cells_and_controls(client: FlaskClient) -> None:
@@ -391,6 +390,7 @@ def test_fields_of_a_request() -> None:
     cases: list[dict[str, Any]] = [{}, {"x": None}, {"x": 0}]
     assert [plans.field(given, "x", int, 7) for given in cases] == [7, 7, 0]
     assert plans.field({"x": 9}, "x", int, most=9) == 9
+    assert plans.text_from([[2, ["a", "b"]], [2**20, []]], ";") == "sep=;\n\na;b\r\n" + "\n" * (2**20 - 3) + '""\r\n'
     for value in (-1, 10, True, 9.0, "9", [9]):
         with pytest.raises(apart.Wrong, match=str(plans.OTHER_FORM)):
             plans.field({"x": value}, "x", int, most=9)
@@ -462,40 +462,50 @@ def test_a_server_that_is_busy_says_so(monkeypatch: pytest.MonkeyPatch) -> None:
 
 # Plans
 
-def plan_by_hand() -> tuple[pfs.Schedule, pfs.Calendar]:
-    shop = pfs.Instance(SHOP["times"], job_names=SHOP["jobs"], machine_names=SHOP["machines"], unit="h", decimals=1)
-    return shop.schedule(ORDER), pfs.Calendar(DATES["begin"], DATES["shifts"].split("\n"), DATES["days"])
+# The response on the plan of docs/PLAN.md.
+TOLD: dict[str, Any] = {
+    "makespan": "15.5 h", "span": 155, "bound": "15.5 h", "isOptimal": True, "above": 0.0, "gone": [], "new": [],
+    "end": "2026-12-01 13:30", "bottleneck": "paint", "moved": [],
+    "heads": ["machine", "work", "utilisation %", "idle before", "idle between", "idle after", "critical %"],
+    "machines": [["saw", "10.0", 64.5, "0.0", "0.0", "5.5", 6.5], ["drill", "9.5", 61.3, "1.0", "2.0", "3.0", 6.5],
+                 ["paint", "13.5", 87.1, "2.0", "0.0", "0.0", 87.1]],
+    "jobs": [["box", "2026-11-30 06:00", "2026-11-30 14:00"], ["table", "2026-11-30 07:00", "2026-12-01 10:00"],
+             ["chair", "2026-11-30 10:00", "2026-12-01 11:30"], ["shelf", "2026-11-30 12:00", "2026-12-01 13:30"]]}
 
 
-def test_a_plan_is_told_as_the_package_has_it(client: FlaskClient) -> None:
-    schedule, calendar = plan_by_hand()
-    got = answer(client, "/api/plan", PLAN)
-    rows = [line.split(",") for line in str(schedule.to_csv(calendar=calendar)).splitlines()[1:]]
-    assert got["jobs"] == [[job, min(row[2] for row in rows if row[0] == job),
-                            max(row[3] for row in rows if row[0] == job)] for job in ORDER]
-    report = schedule.report()
-    assert [row[0] for row in got["machines"]] == SHOP["machines"] and got["bottleneck"] == report.bottleneck
-    assert [row[1] for row in got["machines"]] == ["10.0", "9.5", "13.5"] and got["span"] == schedule.makespan == 155
-    assert (got["makespan"], got["bound"], got["isOptimal"], got["above"]) == ("15.5 h", "15.5 h", True, 0.0)
-    assert got["end"] == "2026-12-01 13:30" and (got["gone"], got["new"]) == ([], [])
-    worse = answer(client, "/api/plan", {**PLAN, "order": ["shelf", "chair", "table", "box"]})
-    assert not worse["isOptimal"] and worse["above"] == round(100 * (worse["span"] - 155) / 155, 1) > 0
-    proved = answer(client, "/api/plan", {**PLAN, "order": ["shelf", "chair", "table", "box"], "least": 160})
-    assert (proved["bound"], proved["above"]) == ("16.0 h", round(100 * (worse["span"] - 160) / 160, 1))
-    assert answer(client, "/api/plan", {**PLAN, "least": 10**9})["bound"] == "15.5 h", "no bound above a makespan"
-    kept = answer(client, "/api/plan", {**PLAN, "kept": [["box", "chair", "shelf", "gone"], ["shelf", *ORDER[:3]]]})
-    assert kept["moved"] == [[], ["shelf"]], "table isn't in the first one"
-    german = answer(client, "/api/plan", {**PLAN, "language": "de"})
-    assert got["heads"][:2] == ["machine", "work"] and german["heads"][:2] == ["Maschine", "Arbeit"]
-    assert all("<title>Week 49</title>" in each["chart"] for each in (got, german))
+@pytest.mark.parametrize(("asks", "told"), [
+    ({}, {}), ({"least": 2**53}, {}),
+    ({"calendar": {"begin": " 2026-11-30T06:00 ", "shifts": " \n06:00-14:00 \n\n fri:06:00-12:00", "days": " mon-fri",
+                   "closed": " "}}, {}),
+    ({"calendar": {"shifts": " ", "days": ""}, "title": ""},
+     {"end": "", "jobs": [["box", "0.0", "8.0"], ["table", "1.0", "12.0"], ["chair", "4.0", "13.5"],
+                          ["shelf", "6.0", "15.5"]]}),
+    ({"language": "de"}, {"heads": ["Maschine", "Arbeit", "Auslastung %", "frei vorher", "frei dazwischen",
+                                    "frei danach", "kritisch %"]}),
+    ({"kept": [["box", "chair", "shelf", "gone"], ["shelf", *ORDER[:3]]]}, {"moved": [[], ["shelf"]]}),
+    ({"order": ["box", "stool", "chair", "shelf", "box"], "held": 1}, {"gone": ["stool"], "new": ["table"]}),
+    ({"order": ["box", "chair", "shelf"], "held": 3, "least": 160}, {
+        "makespan": "16.5 h", "span": 165, "bound": "16.0 h", "isOptimal": False, "above": 3.1, "new": ["table"],
+        "end": "2026-12-02 06:30", "machines": [
+            ["saw", "10.0", 60.6, "0.0", "0.0", "6.5", 60.6], ["drill", "9.5", 57.6, "1.0", "2.0", "4.0", 15.2],
+            ["paint", "13.5", 81.8, "2.0", "1.0", "0.0", 24.2]],
+        "jobs": [["box", "2026-11-30 06:00", "2026-11-30 14:00"], ["chair", "2026-11-30 07:00", "2026-12-01 07:30"],
+                 ["shelf", "2026-11-30 09:00", "2026-12-01 09:30"],
+                 ["table", "2026-11-30 13:00", "2026-12-02 06:30"]]})])
+def test_a_plan_is_told(asks: dict[str, Any], told: dict[str, Any], client: FlaskClient) -> None:
+    got = answer(client, "/api/plan", {**PLAN, **asks})
+    chart = got.pop("chart")
+    assert got == {**TOLD, **told}
+    assert ("<title>Week 49</title>" in chart) == ("title" not in asks)
+    assert ("Auftrag suchen:" in chart) == ("language" in asks)
 
 
-def test_jobs_that_are_gone_or_new_are_told(client: FlaskClient) -> None:
-    """New ones are where they are best, after what is held."""
-    got = answer(client, "/api/plan", {**PLAN, "order": ["shelf", "stool", "chair"], "held": 1})
-    assert (got["gone"], sorted(got["new"])) == (["stool"], ["box", "table"]) and got["jobs"][0][0] == "shelf"
-    order = [row[0] for row in got["jobs"]]
-    assert sorted(order) == sorted(SHOP["jobs"]) and order.index("shelf") < order.index("chair")
+@pytest.mark.parametrize(("times", "told"), [([[0, 1, 0], [0, 0, 1]], ("2", "1", False, 100.0)),
+                                             ([[0, 0, 0], [0, 0, 0]], ("0", "0", True, 0.0))])
+def test_how_far_above_the_bound_a_plan_is(times: Any, told: Any, client: FlaskClient) -> None:
+    shop = {"jobs": ["a", "b"], "machines": ["saw", "drill", "paint"], "times": times}
+    got = answer(client, "/api/plan", {"shop": shop, "order": ["a", "b"]})
+    assert (got["makespan"], got["bound"], got["isOptimal"], got["above"]) == told
 
 
 def test_a_name_is_no_script_in_what_is_made(client: FlaskClient) -> None:
@@ -515,9 +525,8 @@ BEGINS = {"xlsx": b"PK", "zip": b"PK", "pdf": b"%PDF", "csv": b"\xef\xbb\xbfjob;
 
 
 def test_the_language_of_a_plan_is_no_file(client: FlaskClient) -> None:
-    assert "Auftrag suchen:" in answer(client, "/api/plan", {**PLAN, "language": "de"})["chart"]
-    for language, first in (("de", b"\xef\xbb\xbfAuftrag;Maschine;Beginn;Ende\n"), ("en", BEGINS["csv"]),
-                            ("fr", BEGINS["csv"]), (__file__, BEGINS["csv"])):
+    for language, first in (("de", b"\xef\xbb\xbfAuftrag;Maschine;Beginn;Ende\n"), ("fr", BEGINS["csv"]),
+                            (__file__, BEGINS["csv"])):
         got = asked(client, "/api/file", {**PLAN, "kind": "csv", "language": language})
         assert got.status_code == 200 and got.data.startswith(first)
 
@@ -537,18 +546,19 @@ def test_a_plan_is_downloaded_under_a_name_that_is_no_path(client: FlaskClient, 
             assert b"BEGIN:VEVENT" in archive.read(names[0])
 
 
-@pytest.mark.parametrize("down", [{}, {"drill": "2026-12-01T12:00"}])
-def test_the_rest_is_that_of_the_package(client: FlaskClient, down: dict[str, str]) -> None:
-    """At four hours of work, when the drill may be down for two."""
-    schedule, _ = plan_by_hand()
-    got = answer(client, "/api/rest", {**PLAN, "at": "2026-12-01T08:00", "down": down})
-    left, held, done = schedule.rest(100, {"drill": 140} if down else {})
-    assert (got["order"], got["held"], got["done"]) == (list(left.job_names or ()), held, list(done))
-    assert got["shop"]["times"] == left.times.tolist() and got["begin"] == "2026-12-01T08:00:00" and got["faults"] == []
-    after = answer(client, "/api/plan", {**PLAN, "shop": got["shop"], "order": got["order"],
-                                         "calendar": {**DATES, "begin": got["begin"]}})
-    if not down:
-        assert after["end"] == "2026-12-01 13:30", "the same order ends when it ended before"
+@pytest.mark.parametrize(("down", "left"), [({}, "1.5"), ({"drill": "2026-12-01T12:00"}, "5.5")])
+def test_the_rest_is_what_is_left(down: dict[str, str], left: str, client: FlaskClient) -> None:
+    """After ten hours. Until noon are four hours. Names of sums are those of jobs and machines."""
+    shop = {**SHOP, "jobs": ["table", "chair", "total", "box"], "machines": ["Qty", "drill", "paint"]}
+    got = answer(client, "/api/rest", {**PLAN, "shop": shop, "order": ["box", "table", "chair", "total"],
+                                       "at": "2026-12-01T08:00", "down": down})
+    assert got == {
+        **AS_READ, "delimiter": ",", "order": ["table", "chair", "total"], "held": 3, "done": ["box"],
+        "begin": "2026-12-01T08:00:00", "rows": [
+            [1, ["job [h]", "Qty", "drill", "paint"]], [2, ["table", "0.0", "0.0", "2.0"]],
+            [3, ["chair", "0.0", left, "1.5"]], [4, ["total", "0.0", "1.0", "2.0"]]],
+        "shop": {"jobs": ["table", "chair", "total"], "machines": ["Qty", "drill", "paint"], "unit": "h", "decimals": 1,
+                 "times": [[0, 0, 20], [0, int(10 * float(left)), 15], [0, 10, 20]]}}
 
 
 # Searches
