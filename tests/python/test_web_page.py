@@ -230,7 +230,7 @@ class Play:
             "fail": lambda text: run("fails = arguments[0]", [int(text.split()[0]), *text.split(" ", 2)[1:]]),
             "do": run, "row": lambda key: run("return said(arguments[0])", key),
             "numbers": lambda: [each.text for each in page.all(".number")],
-            "headings": lambda: [each.text for each in page.all("h1, h2") if each.is_displayed()]}
+            "headings": lambda: [each.text for each in page.all("h1, h2, #message") if each.is_displayed()]}
 
     def drop(self, name: str) -> None:
         self.page.drop(name, self.files[name])
