@@ -277,6 +277,7 @@ for (const button of document.querySelectorAll("[data-kind]")) button.onclick = 
   const {kind} = button.dataset, href = URL.createObjectURL(await ask("/api/file", plan({kind})));
   const stem = (byId("title").value || "plan").replace(/[^\p{L}\p{N} _-]/gu, "-").slice(0, 80);
   made("a", null, null, {href, download: `${stem}.${kind}`}).click();
+  setTimeout(() => URL.revokeObjectURL(href), 60_000);
 });
 
 // What is left of the plan
