@@ -27,7 +27,6 @@ LIB = lib
 ZSH = share/zsh/site-functions
 PROGRAM = crates/pfs/out/pfs
 LIBRARY = lib/out/libpfs.so.1
-PROVED = crates/pfs_c/out/libpfs_c.a
 PACKAGE = PYTHONPATH=python/src /usr/bin/python3 -B -m
 
 define newline
@@ -94,13 +93,11 @@ $(PROGRAM): crates.txt $(shell find crates \( -name out -o -name must-fail -o -n
 	tools/build
 	touch $@  # rt leaves a program that is the same as it is
 
-$(PROVED): crates.txt $(shell find crates \( -name out -o -name must-fail -o -name pfs \
+$(LIBRARY): crates.txt $(wildcard lib/*.*) $(shell find crates \( -name out -o -name must-fail -o -name pfs \
     -o -name pfs_calls -o -name pfs_desk -o -name pfs_tests -o -name pfs_words \) -prune -o -type f -print)
 	tools/build pfs_c
-	touch $@
-
-$(LIBRARY): $(PROVED) $(wildcard lib/*.*)
 	tools/library
+	touch $@
 
 install: $(PROGRAM) $(BUILT_LIBRARY)
 	printf '%s\n' "$$PROGRAM_FILES" $(if $(BUILT_LIBRARY),"$$LIBRARY_FILES") | \

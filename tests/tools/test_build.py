@@ -72,12 +72,7 @@ NOTE = """#!/bin/sh
 set -- "${0#"$TOP/bin/"}" "$@"
 (IFS='|'; echo "$*${GIT_DIR:+ in $GIT_DIR}${COVERAGE_FILE:+ into $COVERAGE_FILE}${PYTHONPATH:+ with $PYTHONPATH}") \\
     | sed "s:$TOP/\\|making\\.[^/]*/::g" >> "$TOP/notes"
-for word in "$@" "$COVERAGE_FILE"; do
-    case $word in
-    lib/out/* | */out/lines) echo made > "$word" ;;
-    tools/library) echo made > lib/out/libpfs.so.1 ;;
-    esac
-done
+for word in "$@" "$COVERAGE_FILE"; do case $word in lib/out/* | */out/lines) echo made > "$word" ;; esac; done
 [ "$1" != rt ] || cat
 [ "$(grep -c . "$TOP/notes")" != "$FAILS" ] || exit "${STATUS:-7}"
 """
@@ -93,8 +88,7 @@ def calls_of(words: list[str], top: pathlib.Path, folder: pathlib.Path, fails: i
     place = folder / "ä b"
     for name in ("lib/out", "crates/pfs/out", "crates/pfs_c/out"):
         (place / name).mkdir(parents=True, exist_ok=True)
-    proved = ["crates/pfs_c/out/libpfs_c.a"] * (words[0] == "tools/library")
-    for name in ("crates/pfs/stdin", "crates.txt", "notes", *proved):
+    for name in ("crates/pfs/stdin", "crates/pfs_c/out/libpfs_c.a", "crates.txt", "notes"):
         (place / name).write_text("the stored input\n" if "stdin" in name else "")
     for name in CALLED:
         write_script(place / name, NOTE)
@@ -115,7 +109,7 @@ MINUTES = {"packages": 1, "layout, types, scripts and pages": 1, "proofs of the 
 SCRIPTS = {
     "tools/test": (
         ["tools/setup|test", f"{PYTEST}-m|check",
-         "tools/build|pfs|pfs_c", "make|-s|crates/pfs/out/pfs|lib/out/libpfs.so.1",
+         "tools/build|pfs|pfs_c", "tools/library", "make|-s|crates/pfs/out/pfs|lib/out/libpfs.so.1",
          f"{PYTEST}{COVERED}--cov-report=|--junitxml=out/tests.xml|-m|not check and not calls into out/lines",
          "tests/mutants.py|--least|75|40"],
         "".join(f"== {number} of 5: {what} (on two processors {minutes} minutes)\n"
