@@ -467,7 +467,9 @@ def test_a_plan_is_searched_drawn_and_downloaded(page: Page) -> None:
     rows = [["job [min]", *SHOP["machines"]], *([job, *map(str, times)] for job, times in zip(jobs, SHOP["times"]))]
     page.paste("".join(";".join(row) + "\n" for row in rows))
     page.wait(lambda: "30 jobs" in page.text("#read"))
-    Select(page.one("#seconds")).select_by_value("600")
+    seconds = Select(page.one("#seconds"))
+    assert [each.get_attribute("value") for each in seconds.options] == ["2", "10", "60", "600"]
+    seconds.select_by_value("600")
     page.browser.execute_script("arguments[0].value = '2026-11-30T06:00'", page.one("#begin"))
     for held in (0, 1):
         page.click("#plan")
