@@ -222,7 +222,7 @@ async function evaluate() {
     ? tr("optimal: no order is shorter") : tr("at most {above} % above the shortest: no order is below {bound}", now),
     ...others.map(([names, text]) => `${text} ${names.join(", ")}`)].join("; ");
   byId("chart").srcdoc = now.chart;
-  byId("now").value ||= now.end && now.jobs[0][1].slice(0, 16);
+  byId("now").value ||= now.end && now.jobs[0][1].replace(" ", "T").slice(0, 16);
   byId("machines").replaceChildren(rowOf([...now.heads, tr("down until")], null, "th"));
   for (const each of now.machines) {
     const row = rowOf(each, byId("machines"), "td", "number");
