@@ -129,7 +129,6 @@ def test_tables_that_are_unclear(change: dict[str, Any], said: str) -> None:
 
 @pytest.mark.parametrize(("text", "line", "said"), [
     ("instance,makespan,order\nsmall,10,2,1,3\n", 2, "5 cells for 3 columns: quote an order"),
-    ("instance,makespan,order\nsmall,10,2,1\n", 2, "4 cells for 3 columns: quote an order"),
     ("instance makespan order\n", 1, "no column instance (or problem), makespan (or Cmax), order (or sequence, "),
     ("", 1, "the table is empty"), ("instance;makespan;order\n", 1, "the table has only its first line, and no orders"),
     ("instance;makespan\nsmall;10\n", 1, "no column order (or sequence, permutation, Reihenfolge), but 'instance', 'm"),
@@ -180,7 +179,8 @@ def test_names(tmp_path: pathlib.Path) -> None:
     pfs.Instance(pfs.taillard(1).times, seed=pfs.taillard(1).seed).write(tmp_path / "plain")
     [found] = pfs.audit([{"instance": "plain", "makespan": 1278, "order": order}], tmp_path)
     assert "that is the best known makespan" in found.why
-    for name, said in (("two", "its file has 2 blocks, so write two:1"), ("two:3", "no instance 'two:3'")):
+    for name, said in (("two", "its file has 2 blocks, so write two:1"), ("two:3", "no instance 'two:3'"),
+                       ("a", "no instance 'a'$")):  # which is a folder
         with pytest.raises(ValueError, match=said):
             pfs.audit([{**rows[0], "instance": name}], tmp_path, strict=True)
     with pytest.raises(ValueError, match="no instance 'best': .*size line 1 has a wrong count"):
@@ -203,14 +203,6 @@ def test_the_command(tmp_path: pathlib.Path, monkeypatch: pytest.MonkeyPatch,
     assert capsys.readouterr().out.startswith("line 2, ta001 =IG: counted from 0: others count from 1; counted from ")
     with pytest.raises(ExperimentError, match="none is not a folder"):
         run("one.csv --instances none")
-    with pytest.raises(ExperimentError, match="one.csv is read, and writing would replace it: name another file"):
-        run("one.csv --csv one.csv")
-
-
-def test_a_folder_in_a_folder_is_no_instance(tmp_path: pathlib.Path) -> None:
-    (tmp_path / "small").mkdir()
-    found, = pfs.audit([{"instance": "small", "makespan": 1, "order": "1"}], tmp_path)
-    assert (found.verdict, found.why) == ("unclear", "column 'instance': no instance 'small'")
 
 
 @pytest.mark.seconds(3)

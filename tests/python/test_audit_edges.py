@@ -171,12 +171,15 @@ def test_three_zeros_after_a_point_may_be_thousands(stated: Any, is_clear: bool)
     assert (found.verdict == "unclear") != is_clear and found.valid == is_clear and len(found.why) < 200
 
 
-def test_missing_values_of_pandas_own_types() -> None:
+def test_missing_values_and_columns_of_frames() -> None:
     text = "instance,makespan,order,method,block\nsmall,10,2 1 3,IG,\nsmall,10,2 1 3,,\nsmall,,2 1 3,IG,\n,10,,,\n"
     frame = pandas.read_csv(io.StringIO(text))
     for each in (frame, frame.convert_dtypes()):
         assert [(row.method, row.verdict) for row in pfs.audit(each, [SMALL])] == [
             ("IG", "valid and optimal"), ("", "valid and optimal"), ("IG", "unclear"), ("", "unclear")]
+    with pytest.raises(ValueError, match="the table has no column order .*, but 'instance', 'makespan'"):
+        pfs.audit(frame[HEAD[::2]])
+    assert pfs.audit([]) == pfs.audit(frame[:0]) == []
 
 
 @pytest.mark.parametrize("head", [
@@ -184,12 +187,6 @@ def test_missing_values_of_pandas_own_types() -> None:
 def test_names_of_columns(head: str, tmp_path: pathlib.Path) -> None:
     (tmp_path / "t").write_text(f"{head}\nsmall;10;2 1 3\n")
     assert pfs.audit(tmp_path / "t", [SMALL])[0].valid
-
-
-def test_columns_that_are_missing_are_named_with_what_was_found() -> None:
-    with pytest.raises(ValueError, match="the table has no column order .*, but 'instance', 'makespan'"):
-        pfs.audit(pandas.DataFrame({"instance": ["a"], "makespan": [1]}))
-    assert pfs.audit([]) == [] and pfs.audit(pandas.DataFrame(columns=HEAD)) == []
 
 
 @pytest.mark.parametrize("name", ["Ta1", "TA01", "ta001", "Ta001.txt", "tai20_5:1", "x/ta1"])
@@ -214,7 +211,7 @@ def test_no_file_that_is_read_is_replaced(tmp_path: pathlib.Path, monkeypatch: p
     pathlib.Path("link").symlink_to("f/g/small.txt")
     pathlib.Path("hard").hardlink_to("t.csv")
     for path in ("t.csv", "hard", "f/g/small.txt", "link"):
-        with pytest.raises(ExperimentError, match=f"{path} is read, and writing would replace it"):
+        with pytest.raises(ExperimentError, match=f"{path} is read, and writing would replace it: name another file"):
             run(f"t.csv --instances f --csv {path}")
     assert pathlib.Path("f/g/small.txt").read_text() == before
     assert run("t.csv --instances f --csv out.csv") == 0 and run("t.csv --instances f --csv out.csv") == 0
