@@ -252,8 +252,7 @@ def test_a_makespan_below_the_bound_is_an_error(text: str, report: Reported) -> 
                               f"{int(makespan) + 1}: no order has it\n")
 
 
-def test_orders_are_audited_where_the_instance_is_at_hand(experiment: Experiment, with_library: dict[str, str],
-                                                          report: Reported) -> None:
+def test_orders_are_audited_where_the_instance_is_at_hand(experiment: Experiment, report: Reported) -> None:
     """As one of Taillard's, or next to a CSV as long as the folder there is whole. The makespan of the order 1 2 3 ..
     of ta001 is 1448."""
     folder, order = experiment.folder, " ".join(map(str, range(1, 21)))
@@ -276,8 +275,8 @@ def test_orders_are_audited_where_the_instance_is_at_hand(experiment: Experiment
     assert csv_rows(folder / "report" / "best.csv") == [dict(instance="ta001", method="out", makespan="1448",
                                                              order=order)], "the best order of each instance, once"
     (folder / "report" / "best.csv").rename(folder / "\udcff.csv")
-    got = run_tool([experiment.scripts / "pfs-experiments", "audit", "\udcff.csv"], folder, env=with_library)
-    assert got.stdout == "\\udcff.csv: 1 orders audited, 1 valid (0 optimal), 0 wrong\n"
+    assert experiment.script("audit", "\udcff.csv").stdout == (
+        "\\udcff.csv: 1 orders audited, 1 valid (0 optimal), 0 wrong\n")
     unclear = f"ta001,1,1448,{order}\nta002,1,1400,{' '.join(map(str, range(20)))}\n"
     assert "1 orders of out.csv count jobs from 0 and as many from 1" in report_of(unclear).stderr
     for text, why in wrong.items():
@@ -678,16 +677,12 @@ def labels_of(figure: Any) -> tuple[str, str, str]:
     ((7, 1000), "symlog", (7, 1000))])
 def test_many_rounds_have_a_logarithmic_scale(rounds: tuple[int, ...], scale: str, ends: tuple[int, int],
                                               done: Callable[[str], Any]) -> None:
-    """With 0 before the rest."""
     text = "".join(f"a,20,5,{each},4,0,1,1,110,100,10.0,1000,0.1,ok\n" for each in rounds)
     figure = reports.by_rounds(done(HEAD + text), "gap_percent", "y", "title", None)
     axis = figure.axes[0]
     assert labels_of(figure) == ("rounds of iterated greedy", "y", "jobs×machines")
     assert (axis.get_xscale(), axis.get_xlim()) == (scale, ends)
     assert axis.xaxis.get_major_formatter()(1000) == "1,000" and len(axis.xaxis.get_minorticklocs()) == 0
-    if scale == "symlog":
-        places = [axis.transData.transform((at, 0))[0] for at in (0, min(filter(None, rounds)), ends[1])]
-        assert places == sorted(places)
 
 
 @pytest.mark.parametrize(("seconds", "ends"), [
