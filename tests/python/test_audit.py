@@ -24,10 +24,9 @@ def run(words: str) -> int:
     return audit(command_line().parse_args(["audit", *words.split()]))
 
 
-@pytest.fixture
-def table(tmp_path: pathlib.Path, monkeypatch: pytest.MonkeyPatch) -> list[tuple[Any, ...]]:
-    """The rows of a table in the current folder, each with the verdict and its reason: instance, method, order and
-    stated makespan. There are instances of both layouts; one method counts jobs from 0."""
+def test_a_table_with_errors(tmp_path: pathlib.Path, monkeypatch: pytest.MonkeyPatch,
+                             capsys: pytest.CaptureFixture[str]) -> None:
+    """The instances are of both layouts, and one method counts jobs from 0."""
     monkeypatch.chdir(tmp_path)
     sizes = {"VFR6_3_1_Gap": 6, "VFR6_3_2_Gap": 6, "VFR8_3_1_Gap": 8}
     shops = {name: pfs.generate(jobs, 3, at) for at, (name, jobs) in enumerate(sizes.items(), 1)} | {
@@ -38,33 +37,20 @@ def table(tmp_path: pathlib.Path, monkeypatch: pytest.MonkeyPatch) -> list[tuple
         shops[name].write(path, "orlib")
     (tmp_path / "instances" / "tai20_5.txt").write_text("".join(pfs.taillard(at).to_text() for at in (1, 2)))
     (tmp_path / "instances" / "README").write_text("Instances of two benchmarks.\n")
-    one, two, large, published = shops
+    one = "VFR6_3_1_Gap"
     own = {name: [*range(2, shop.jobs + 1), 1] for name, shop in shops.items()}
     spans = {name: makespan(shops[name], [job - 1 for job in order]) for name, order in own.items()}
-    swapped = [own[one][-1], *own[one][1:-1], own[one][0]]
-    other = makespan(shops[one], [job - 1 for job in swapped])
-    states = f"states {{}}, takes {spans[one]}".format
-    return [
+    # Instance, method, order and stated makespan, with the verdict and its reason.
+    table: list[tuple[Any, ...]] = [
         *((name, "IG", " ".join(map(str, own[name])), spans[name], "valid", "") for name in shops),
-        (one, "IG", own[one], spans[one] - 100, "wrong makespan", states(spans[one] - 100)),
-        (one, "IG", swapped, other + 1, "wrong makespan", f"states {other + 1}, takes {other}"),
+        (one, "IG", own[one], spans[one] - 100, "wrong makespan", f"states {spans[one] - 100}, takes {spans[one]}"),
         (one, "IG", [2, 3, 4, 5, 2, 1], 7, "job twice", "job 2 at places 1 and 5; job 6 is missing"),
         (one, "IG", [0, 3, 4, 5, 6, 1], 7, "job out of range", "job 0 at place 1: the jobs are 1 to 6; job 2 is "),
-        (one, "IG", own[one][:-1], 7, "job missing", "job 1 is missing"),
-        (one, "IG", own[two], spans[two], "wrong makespan", f"the order takes {spans[two]} on {two}"),
-        (two, "IG", swapped, other, "wrong makespan", f"the order takes {other} on {one}"),
-        (two, "IG", own[two][::-1], spans[two], "wrong makespan", f"the reversed order takes {spans[two]}"),
-        (large, "IG", own[one], spans[one], "wrong size",
-         f"6 jobs, but the instance has 8; the order takes {spans[one]} on {one}"),
         (one, "IG", [job - 1 for job in own[one]], spans[one], "counted from 0",
          f"others count from 1; counted from 0, it takes {spans[one]}"),
         *((name, "TSM", str([f"J{job - 1}" for job in own[name]]).replace("'", ""), spans[name], "valid", "")
           for name in shops),
-        (one, "TSM", [2, 3, 4, 5, 6, 99], 7, "job out of range", "job 6 at place 5: the jobs are 0 to 5; job 0 is "),
-    ]
-
-
-def test_a_table_with_errors(table: list[tuple[Any, ...]], capsys: pytest.CaptureFixture[str]) -> None:
+        (one, "TSM", [2, 3, 4, 5, 6, 99], 7, "job out of range", "job 6 at place 5: the jobs are 0 to 5; job 0 is ")]
     with open("supplement.csv", "w", newline="") as file:
         writer = csv.writer(file, delimiter=";")
         writer.writerow(["SEQUENCE", "Algorithm", "C_max", "seconds", "Instance"])
@@ -81,7 +67,7 @@ def test_a_table_with_errors(table: list[tuple[Any, ...]], capsys: pytest.Captur
     *printed, last = capsys.readouterr().out.splitlines()
     assert printed == [f"line {each.row}, {each.instance} {each.method}: {each.verdict}: {each.why}"
                        for each in found if not each.valid]
-    assert re.fullmatch(r"supplement.csv: 19 orders audited, 8 valid \(\d optimal\), 11 wrong", last)
+    assert re.fullmatch(r"supplement.csv: 13 orders audited, 8 valid \(\d optimal\), 5 wrong", last)
     rows = list(csv.reader(open("audited.csv")))
     assert rows == [["line", *pfs.Audited._fields[1:]], *([str(cell) if cell is not None else "" for cell in each]
                                                           for each in found)]

@@ -107,7 +107,6 @@ def test_a_report_has_its_table_and_its_plots(ending: str, begin: bytes, report:
 GAP, SECONDS = "the column gap_percent, from -100 to 1e+20", "the column seconds, from 0 to 1e+12"
 BAD = [("20,5,0", "20,5,0.5", "'0.5' is not a number of the column rounds, from 0 to 1e+09"),
        *(("10.0000", each, f"{each!r} is not a number of {GAP}") for each in ("-101", "nan", "x", "1.1e20")),
-       ("ok\n", "ok,a,b,c,d\n", "a row has more cells than the first line"), (REPORTED[len(HEAD):], "", "no rows"),
        (",110,", f",{'1' * 320},", f"'{'1' * 40}' is not a number of the column makespan, from 0 to 1e+18"),
        *(("0.001000", each, f"{each!r} is not a number of {SECONDS}")
          for each in ("inf", "1_0", "-1", "\N{ARABIC-INDIC DIGIT ONE}"))]
@@ -118,7 +117,6 @@ WORDS = [(4, "none.csv report", "none.csv: "), (3, "--width 0 out.csv report", "
          (4, "--reference none out.csv report", "none: "),
          (2, "--reference other.csv out.csv report", "other.csv: no column instance, makespan"),
          (2, "--reference two.csv out.csv report", "two.csv: a has two makespans"),
-         (2, "--reference ranks.csv out.csv report", "ranks.csv: two columns are named 'makespan'"),
          (2, "--reference three.csv out.csv report", "three.csv: '1.000' is not a whole number of at most 18 digits"),
          (2, "out.csv ./out.csv report", "a CSV is named twice, and its runs would count twice"),
          (2, "--reference ranks.csv out.csv .", "ranks.csv is read, and writing would replace it"),

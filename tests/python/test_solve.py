@@ -560,29 +560,6 @@ def test_the_chances_of_longer_orders(temperature: float, total: int, operations
         assert abs(chance - math.floor(due)) <= 1e-6 * due + (abs(due - round(due)) < 1e-3), longer
 
 
-@pytest.mark.parametrize("hold", [[], [3, 1]])
-def test_a_search_that_accepts_longer_orders_loses_nothing(hold: list[int]) -> None:
-    """By Ctrl-C, and in threads."""
-    shop = pfs.generate(30, 8, 9)
-
-    def interrupt(rounds: int, makespan: int) -> None:
-        if rounds >= 5:
-            raise KeyboardInterrupt
-
-    whole = shop.solve(60, **LONGER, hold=hold)
-    with pytest.raises(pfs.Interrupted) as stop:
-        shop.solve(60, **LONGER, hold=hold, progress=interrupt)
-    half = stop.value.solution
-    assert 5 <= half.rounds < 60
-    rest = shop.solve(60 - half.rounds, **LONGER, hold=hold, start=half, first=half.rounds)
-    assert (rest.order.tolist(), rest.rounds, rest.seed) == (whole.order.tolist(), 60, 0)
-    if not hold:
-        assert pfs.solve_all([shop], [0], 60, **LONGER) == {(0, 0): whole}
-        found = {(0, 0): shop.solve(20, **LONGER)}
-        assert pfs.solve_all([shop], [0], 60, **LONGER, found=found) == {(0, 0): whole}
-    assert whole.makespan < shop.solve(0, hold=hold).makespan
-
-
 @given(plainly.shops())
 def test_without_a_start_the_others_are_inserted_as_neh_does(times: plainly.Table) -> None:
     shop = pfs.Instance(times)
