@@ -1,6 +1,7 @@
 """Audits of tables as people have them: workbooks, forms of orders, rows that can't be audited, and causes of wrong
 makespans. Expected makespans are those of the second program of the tests."""
 import io
+import itertools
 import pathlib
 import random
 import re
@@ -277,7 +278,8 @@ def test_jobs_that_were_exchanged() -> None:
     assert checked > 20
 
 
-# The instances of a table of 300 rows, and the methods.
+# The rows of a table by the number of the instance and the method, and 300 of these.
+Rows = dict[tuple[int, str], dict[str, Any]]
 NUMBERS, METHODS = (*range(1, 26), *range(31, 56), *range(61, 86)), ["NEH", "IG", "HGA", "TS"]
 # Of 17 errors how often each is made, and what is told of it; nothing of the last one, which no audit can know.
 KINDS = {"of another instance": (2, "the order takes {} on {}"), "reversed": (2, "the reversed order takes {}"),
@@ -289,69 +291,58 @@ KINDS = {"of another instance": (2, "the order takes {} on {}"), "reversed": (2,
          "of another row": (1, "states it for {1}"), "machines": (1, "no cause")}
 
 
-def shop_of(given: dict[str, Any]) -> pfs.Instance:
-    return pfs.taillard(int(given["instance"][2:]))
-
-
-def wrong_makespan(kind: str, rows: list[dict[str, Any]], at: int, chance: random.Random) -> tuple[int, str, set[int]]:
-    """A makespan that somebody states by an error of this kind, the name of another instance, and the rows that it may
-    be of."""
-    order = [job - 1 for job in rows[at]["order"]]
-    shop, count = shop_of(rows[at]), len(order)
-    first = at - at % 100
-    like = [other for other in range(first, first + 100)
-            if other % 4 == at % 4 and shop_of(rows[other]).machines == shop.machines and other != at]
-    other_at, method_at = chance.choice(like), at - at % 4 + (at + 1) % 4
-    other = rows[other_at]
-    one = chance.randrange(count - 1)
-    two = one + 1 if kind == "neighbours" else chance.randrange(one + 1, count)
+def wrong_makespan(kind: str, rows: Rows, at: tuple[int, str], other: int, chance: random.Random) -> int:
+    """A makespan that somebody states by an error of this kind, perhaps with another instance."""
+    number, method = at
+    shop, order = pfs.taillard(number), [job - 1 for job in rows[at]["order"]]
+    one, two = sorted(chance.sample(range(shop.jobs), 2))
+    two = one + 1 if kind == "neighbours" else two
     swapped = order.copy()
     swapped[one], swapped[two] = order[two], order[one]
     flat = shop.times.T.flatten().tolist()
     turned = shop.times[:, [1, 0, *range(2, shop.machines)]]
     stated: dict[str, Callable[[], int]] = {
-        "of another instance": lambda: makespan(shop_of(other), order),
+        "of another instance": lambda: makespan(pfs.taillard(other), order),
         "reversed": lambda: makespan(shop, order[::-1]), "a digit is lost": lambda: makespan(shop, order) // 10,
-        "places": lambda: makespan(shop, [order.index(job) for job in range(count)]),
+        "places": lambda: makespan(shop, [order.index(job) for job in range(shop.jobs)]),
         "read job by job": lambda: plainly.makespan(np.reshape(flat, shop.times.shape).tolist(), order),
-        "sum": lambda: sum(makespan(shop, order[:length]) for length in range(1, count + 1)),
+        "sum": lambda: sum(makespan(shop, order[:length]) for length in range(1, shop.jobs + 1)),
         "best known": lambda: shop.upper, "neighbours": lambda: makespan(shop, swapped),
         "two jobs": lambda: makespan(shop, swapped),
-        "of another method": lambda: int(rows[method_at]["makespan"]),
-        "of another row": lambda: int(other["makespan"]),
+        "of another method": lambda: int(rows[number, METHODS[METHODS.index(method) - 1]]["makespan"]),
+        "of another row": lambda: int(rows[other, method]["makespan"]),
         "machines": lambda: plainly.makespan(turned.tolist(), order)}
-    return stated[kind](), str(other["instance"]), {other_at, method_at}
+    return stated[kind]()
 
 
-def table_of(seed: int) -> tuple[list[dict[str, Any]], dict[int, tuple[str, str]]]:
-    """A table of good orders, and of each row whose makespan is wrong the kind of the error and what is told of it."""
-    chance, rows, found = random.Random(seed), list[dict[str, Any]](), dict[int, tuple[str, str]]()
-    for number in NUMBERS:
+def table_of(seed: int) -> tuple[Rows, dict[tuple[int, str], tuple[str, str]]]:
+    """A table of good orders, and of each row whose makespan is wrong the kind of the error and what is told of it.
+    Each second method and the last ten instances of each size have no error."""
+    chance, rows, found = random.Random(seed), Rows(), dict[tuple[int, str], tuple[str, str]]()
+    for number, method in itertools.product(NUMBERS, METHODS):
         shop = pfs.taillard(number)
-        for method in METHODS:
-            order = shop.neh().order.tolist()
-            for _ in range(METHODS.index(method) * 2):
-                order.insert(chance.randrange(len(order)), order.pop(chance.randrange(len(order))))
-            rows.append(row(f"ta{number:03}", order, makespan(shop, order), method))
-    right = [dict(each) for each in rows]
-    free, kept = chance.sample(range(len(rows)), len(rows)), set[int]()
-    for kind, (count, text) in KINDS.items():
-        for _ in range(count):
-            while True:
-                at = free.pop()
-                stated, name, sources = wrong_makespan(kind, right, at, chance)
-                if abs(stated - right[at]["makespan"]) > 1 and at not in kept and not sources & found.keys():
-                    break
-            rows[at]["makespan"], found[at] = stated, (kind, text.format(stated, name))
-            kept |= sources
+        order = shop.neh().order.tolist()
+        for _ in range(METHODS.index(method) * 2):
+            order.insert(chance.randrange(len(order)), order.pop(chance.randrange(len(order))))
+        rows[number, method] = row(f"ta{number:03}", order, makespan(shop, order), method)
+    free = [at for at in rows if at[0] % 30 < 16 and at[1] in METHODS[1::2]]
+    chance.shuffle(free)
+    for kind in [kind for kind, (count, _) in KINDS.items() for _ in range(count)]:
+        stated = right = 0
+        while abs(stated - right) < 2:
+            at, other = free.pop(), chance.randrange(16, 26)
+            other += at[0] // 30 * 30
+            stated, right = wrong_makespan(kind, rows, at, other, chance), rows[at]["makespan"]
+        rows[at]["makespan"] = stated
+        found[at] = kind, KINDS[kind][1].format(stated, f"ta{other:03}")
     return rows, found
 
 
 @pytest.mark.parametrize("seed", range(3))
 def test_of_17_wrong_makespans_in_300_rows_16_have_their_cause(seed: int) -> None:
     rows, wrong = table_of(seed)
-    audited = pfs.audit(rows)
-    assert {at for at, each in enumerate(audited) if not each.valid} == wrong.keys()
+    audited = dict(zip(rows, pfs.audit(rows.values())))
+    assert {at for at, each in audited.items() if not each.valid} == wrong.keys()
     told = {at: audited[at].why.split("; ")[1:] for at in wrong}
     unexplained = [kind for at, (kind, text) in wrong.items() if not any(text in hint for hint in told[at])]
     assert unexplained == ["machines"]
