@@ -322,22 +322,19 @@ def test_an_order_that_changes_while_it_is_used_is_validated_as_a_copy(monkeypat
         word for word in words if isinstance(word, int))], "the library reads the caller's memory"
 
 
-def call_everywhere(shop: pfs.Instance) -> dict[str, Callable[[], Any]]:
-    """A call of each function of the library."""
-    return {
-        "pfs_prepare": lambda: pfs.Instance(TIMES).bound(), "pfs_makespan": lambda: shop.makespan([0, 1, 2]),
-        "pfs_bound": shop.bound, "pfs_neh": shop.neh,
-        "pfs_table": lambda: shop.schedule([0, 1, 2]), "pfs_rounds": lambda: shop.solve(1, start=[0, 1, 2]),
-        "pfs_insert_ties": lambda: shop.best_place([0, 1], 2, ties="idle"),
-        "pfs_construct_ties": lambda: shop.insert_all([0], [1], ties="idle"),
-        "pfs_local_search_ties": lambda: shop.local_search([0, 1], ties="idle"),
-        "pfs_insert": lambda: shop.best_place([0, 1], 2), "pfs_generate": lambda: pfs.generate(2, 2, 1),
-        "pfs_read": lambda: pfs.read(io.BytesIO(b"1 1 0 0 0\n1\n"), "taillard"), "pfs_write": shop.to_text,
-        "pfs_insertions": lambda: shop.places([0, 1], 2), "pfs_makespans": lambda: shop.makespans([[0, 1, 2]]),
-        "pfs_read_order": lambda: pfs.read_order(io.BytesIO(b"order 1\n1\nmakespan 1\n")),
-        "pfs_write_order": lambda: pfs.Solution([0], 1).to_text()}
-
-
+# A call of each function of the library.
+CALLS: dict[str, Callable[[], Any]] = {
+    "pfs_prepare": lambda: pfs.Instance(TIMES).bound(), "pfs_makespan": lambda: SHOP.makespan([0, 1, 2]),
+    "pfs_bound": SHOP.bound, "pfs_neh": SHOP.neh,
+    "pfs_table": lambda: SHOP.schedule([0, 1, 2]), "pfs_rounds": lambda: SHOP.solve(1, start=[0, 1, 2]),
+    "pfs_insert_ties": lambda: SHOP.best_place([0, 1], 2, ties="idle"),
+    "pfs_construct_ties": lambda: SHOP.insert_all([0], [1], ties="idle"),
+    "pfs_local_search_ties": lambda: SHOP.local_search([0, 1], ties="idle"),
+    "pfs_insert": lambda: SHOP.best_place([0, 1], 2), "pfs_generate": lambda: pfs.generate(2, 2, 1),
+    "pfs_read": lambda: pfs.read(io.BytesIO(b"1 1 0 0 0\n1\n"), "taillard"), "pfs_write": SHOP.to_text,
+    "pfs_insertions": lambda: SHOP.places([0, 1], 2), "pfs_makespans": lambda: SHOP.makespans([[0, 1, 2]]),
+    "pfs_read_order": lambda: pfs.read_order(io.BytesIO(b"order 1\n1\nmakespan 1\n")),
+    "pfs_write_order": lambda: pfs.Solution([0], 1).to_text()}
 # Nothing of the package calls these.
 UNCALLED = {"pfs_release", "pfs_construct", "pfs_heads_tails", "pfs_iterate", "pfs_local_search", "pfs_prove",
             "pfs_random", "pfs_sizes", "pfs_faulty_job"}
@@ -351,10 +348,9 @@ CALLED = [name for name in _library.PROTOTYPES if name not in UNCALLED]
 def test_other_numbers_of_the_library_are_reported(monkeypatch: pytest.MonkeyPatch, name: str, number: int,
                                                    kind: type[Exception], why: str) -> None:
     """Memory that runs out, and by its text a fault that no argument explains."""
-    call = call_everywhere(pfs.Instance(TIMES))[name]
-    assert call() is not None
+    assert CALLS[name]() is not None
     monkeypatch.setattr(_library.library, name, lambda *_: number)
     for each in QUICK:
         monkeypatch.setattr(_instance, each, lambda *_: number)
     with pytest.raises(kind, match=f"^{why}$"):
-        call()
+        CALLS[name]()
