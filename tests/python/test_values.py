@@ -200,15 +200,6 @@ def test_each_parameter_is_compared(kind: type[Any]) -> None:
         assert not one == other and one != other, f"two of another {name} are equal"
 
 
-def things() -> list[Any]:
-    """What is copied, with a value in each attribute."""
-    return [
-        *map(made_of, COMPARED), pfs.taillard(1).solve(200, history=True), made_of(pfs.Instance).schedule([1, 0]),
-        pfs.FileFault("file", 24, 17, 3, 2, "a hint"), pfs.OrderFault("order", 31, 3),
-        pfs.TableFault("plan.csv", 4, 2, "no time", "saw", (pfs.TableFault("plan.csv", 5, 2, "none"),)),
-        pfs.Interrupted(pfs.Solution([1, 0], 9, 16, 2, 5)), pfs.InterruptedAll({(0, 1): pfs.Solution([0], 1)})]
-
-
 def kept_by(thing: Any) -> dict[str, Any]:
     """Each attribute, as a list, a text or a number."""
     names = [name for name in getattr(thing, "__slots__", None) or vars(thing) if name[0] != "_"]
@@ -220,7 +211,12 @@ def kept_by(thing: Any) -> dict[str, Any]:
 @pytest.mark.parametrize("protocol", [*range(pickle.HIGHEST_PROTOCOL + 1), None])
 def test_a_copy_has_each_attribute(protocol: int | None) -> None:
     """Pickled by a protocol, or copied."""
-    for one in things():
+    things: list[Any] = [
+        *map(made_of, COMPARED), pfs.taillard(1).solve(200, history=True), made_of(pfs.Instance).schedule([1, 0]),
+        pfs.FileFault("file", 24, 17, 3, 2, "a hint"), pfs.OrderFault("order", 31, 3),
+        pfs.TableFault("plan.csv", 4, 2, "no time", "saw", (pfs.TableFault("plan.csv", 5, 2, "none"),)),
+        pfs.Interrupted(pfs.Solution([1, 0], 9, 16, 2, 5)), pfs.InterruptedAll({(0, 1): pfs.Solution([0], 1)})]
+    for one in things:
         if isinstance(one, pfs.Schedule) and protocol in (0, 1):
             continue
         other = copy.copy(one) if protocol is None else pickle.loads(pickle.dumps(one, protocol))
