@@ -253,39 +253,21 @@ class Interrupting:
         return self.step
 
 
-def interrupted(shop: pfs.Instance, tracer: Interrupting, progress: Any) -> pfs.Solution:
-    """The solution that `solve` returns, or that its exception has."""
-    before = sys.gettrace()
-    sys.settrace(tracer)
-    try:
-        return shop.solve(ROUNDS, progress=progress)
-    except KeyboardInterrupt as stop:
-        assert isinstance(stop, pfs.Interrupted), f"interrupted at a bytecode, it is no pfs.Interrupted: {stop!r}"
-        return stop.solution
-    finally:
-        sys.settrace(before)
-
-
 ROUNDS, PARTS = 15, 3
 # More than such a search has.
 MOST_BYTECODES = 50_000
 
 
-@pytest.fixture
-def ends(cut: Callable[[list[int]], None]) -> dict[int, pfs.Solution]:
-    """The solution after each part."""
-    cut([ROUNDS // PARTS])
-    shop = pfs.generate(6, 2, 1)
-    return {rounds: shop.solve(rounds) for rounds in range(0, ROUNDS + 1, ROUNDS // PARTS)}
-
-
 @pytest.mark.seconds(5)
 @pytest.mark.parametrize("first", range(PARTS + 1))
-def test_an_interruption_at_each_bytecode_loses_nothing(ends: dict[int, pfs.Solution], monkeypatch: pytest.MonkeyPatch,
-                                                        first: int) -> None:
+def test_an_interruption_at_each_bytecode_loses_nothing(cut: Callable[[list[int]], None],
+                                                        monkeypatch: pytest.MonkeyPatch, first: int) -> None:
     """Each part counts that the library has made, also before its result is used. After some parts, a first
     interruption comes from `progress`, and a second one at any bytecode after that."""
-    shop, real = pfs.generate(6, 2, 1), _library.library.pfs_rounds
+    cut([ROUNDS // PARTS])
+    shop, real, before = pfs.generate(6, 2, 1), _library.library.pfs_rounds, sys.gettrace()
+    # The solution after each part.
+    ends = {rounds: shop.solve(rounds) for rounds in range(0, ROUNDS + 1, ROUNDS // PARTS)}
     due, made = first * ROUNDS // PARTS or ROUNDS, list[int]()
 
     def noting(*given: Any) -> int:
@@ -303,7 +285,14 @@ def test_an_interruption_at_each_bytecode_loses_nothing(ends: dict[int, pfs.Solu
     for at in range(MOST_BYTECODES):
         made.clear()
         tracer = Interrupting(at, begins_at_once=not first)
-        best = interrupted(shop, tracer, Bar)
+        sys.settrace(tracer)
+        try:
+            best = shop.solve(ROUNDS, progress=Bar)
+        except KeyboardInterrupt as stop:
+            assert isinstance(stop, pfs.Interrupted), f"interrupted at a bytecode, it is no pfs.Interrupted: {stop!r}"
+            best = stop.solution
+        finally:
+            sys.settrace(before)
         assert best == ends[best.rounds], f"interrupted at bytecode {at}: not where so many rounds end"
         assert best.rounds == len(made) * ROUNDS // PARTS, f"interrupted at bytecode {at}: a part that was made is lost"
         if not tracer.has_come:
