@@ -772,7 +772,6 @@ FAILING = [("$pfs \"$@\" | sed 's/^makespan .*/makespan 1/'; exit",
             "check: exit 1, wrong makespan, stated 1, computed"),
            ("kill -9 $$", "solve: signal 9"),
            ('echo "no memory, perhaps" >&2; exit 4', "solve: exit 4, no memory, perhaps"),
-           ('echo "nothing that could be read"; exit', "solve: no cells printed"),
            ("kill -9 $PPID", "lost: exit 137, signal 0")]
 
 
@@ -780,48 +779,42 @@ def test_the_csv_has_a_failed_run_with_its_status(experiment: Experiment) -> Non
     """A run that was killed is made by the next start, and the others are with --retry."""
     program = experiment.replacement("\n".join(f'"solve "*"--seed {seed} "*) {line};;'
                                                for seed, (line, _) in enumerate(FAILING, 1)))
-    got = experiment.plan(HALF.replace("[1, 2, 3]", "[0, 1, 2, 3, 4, 5]")).run(program=program)
+    got = experiment.plan(HALF.replace("[1, 2, 3]", "[0, 1, 2, 3, 4]")).run(program=program)
     statuses = ["ok", *(status for _, status in FAILING)]
-    assert got._replace(stderr=re.sub(r"(?<=computed) \d+", "", got.stderr)) == ended(12, 10, 0, "".join(
+    assert got._replace(stderr=re.sub(r"(?<=computed) \d+", "", got.stderr)) == ended(10, 8, 0, "".join(
         f"shops/a (rounds 10, take 4, passes 0, seed {seed}) and 1 more failed: {statuses[seed]}\n"
-        for seed in (1, 2, 3, 4, 5)))
+        for seed in (1, 2, 3, 4)))
     assert [re.sub(r"(?<=computed) \d+", "", row[-1]) for row in experiment.rows()] == statuses * 2
     assert {row[8:-1] for row in experiment.rows() if row[-1] != "ok"} == {("",) * 4}, "results of runs that failed"
     (experiment.folder / "notes").unlink()
     (experiment.folder / "fixed").touch()
     assert experiment.run(program=program).status == 1
-    assert sorted(line.partition("--seed ")[2][0] for line in experiment.started()) == ["2", "2", "5", "5"]
-    assert experiment.run("out.csv", "--retry", program=program) == ended(12)
-    assert experiment.rows() == experiment.wanted(rounds=[10], seeds=range(6))
+    assert sorted(line.partition("--seed ")[2][0] for line in experiment.started()) == ["2", "2", "4", "4"]
+    assert experiment.run("out.csv", "--retry", program=program) == ended(10)
+    assert experiment.rows() == experiment.wanted(rounds=[10], seeds=range(5))
 
 
 # Interruptions
 
-def interrupted(experiment: Experiment, whom: str, number: int) -> set[str]:
-    """Starts the plan, lets two runs finish and sends a signal while two wait; returns the runs that are done by
-    then."""
+@pytest.mark.parametrize(("whom", "number"), [
+    ("all", signal.SIGINT), ("starter", signal.SIGTERM), ("starter", signal.SIGKILL), ("parallel", signal.SIGKILL)])
+def test_no_run_is_lost_or_made_again(whom: str, number: int, experiment: Experiment) -> None:
+    """Each run is in the CSV once, and none that was done before a signal is made again. It comes while two are done
+    and two wait."""
+    wanted = experiment.plan(HALF).wanted(rounds=(10,))
+    # as a start leaves it that was killed while it made copies
+    (experiment.runs / "pfs-experiment-begun" / "instances").mkdir(parents=True)
     with experiment.gate() as let_through:
         begun = experiment.start("--jobs", "2")
         let_through(2)
         try:
             wait_until(lambda: (len(experiment.done()), len(experiment.started())) == (2, 4), "two are done, two wait")
-            done = experiment.done()
+            made = dict.fromkeys(experiment.done(), 1)
         finally:
-            parallel = (experiment.folder / "parallel").read_text()
-            os.kill({"all": -begun.pid, "starter": begun.pid, "parallel": int(parallel)}[whom], number)
+            parallel = int((experiment.folder / "parallel").read_text())
+            os.kill({"all": -begun.pid, "starter": begun.pid, "parallel": parallel}[whom], number)
             begun.wait(60)
         wait_until(lambda: experiment.left() == [], "what a start has begun ends with it")
-    return done
-
-
-@pytest.mark.parametrize(("whom", "number"), [
-    ("all", signal.SIGINT), ("starter", signal.SIGTERM), ("starter", signal.SIGKILL), ("parallel", signal.SIGKILL)])
-def test_no_run_is_lost_or_made_again(whom: str, number: int, experiment: Experiment) -> None:
-    """Each run is in the CSV once, and none that was done before a signal is made again."""
-    wanted = experiment.plan(HALF).wanted(rounds=(10,))
-    # as a start leaves it that was killed while it made copies
-    (experiment.runs / "pfs-experiment-begun" / "instances").mkdir(parents=True)
-    made = dict.fromkeys(interrupted(experiment, whom, number), 1)
     if (whom, number) != ("starter", signal.SIGKILL):
         so_far = experiment.rows()
         assert len(so_far) >= 2 and [row for row in so_far if row not in wanted] == [], "the CSV so far"
