@@ -22,7 +22,7 @@ import pytest
 from hypothesis import given, strategies
 from pfs import _library, _rounds
 from pfs._rounds import Rounds
-from pfs.experiments import one, plan, run, stage
+from pfs.experiments import ExperimentError, one, plan, run, stage
 from support import plainly
 from support.experiments import HALF, HEAD, PLAN, Experiment
 from support.files import THREE_JOBS
@@ -47,6 +47,12 @@ def assert_refused(got: Done, *said: str, status: int = 2) -> None:
     """With one line, which has these texts."""
     assert (got.status, got.stdout, got.stderr.count("\n")) == (status, "", 1), got.stderr[-500:]
     assert [text for text in said if text not in got.stderr] == [], got.stderr[-500:]
+
+
+def prepare(experiment: Experiment) -> stage.Experiment:
+    """Prepares the runs of the plan in this process."""
+    folder = experiment.folder
+    return stage.prepare(str(folder / "plan.toml"), str(folder / "out.csv"), str(experiment.pfs.path))
 
 
 # Plans and starts
@@ -100,8 +106,9 @@ INVALID = {
 
 @pytest.mark.parametrize(("named", "text"), INVALID.items(), ids=INVALID)
 def test_an_invalid_plan_is_rejected_with_its_fault(text: str, named: str, experiment: Experiment) -> None:
-    status = 4 if named == "none.csv" else 2
-    assert_refused(experiment.plan(text).run(), "pfs-experiments run: ", named.rstrip(), status=status)
+    error = FileNotFoundError if named == "none.csv" else ExperimentError
+    with pytest.raises(error, match=re.escape(named.rstrip())):
+        prepare(experiment.plan(text))
     assert sorted(os.listdir(experiment.folder)) == ["plan.toml", "shops"]
 
 
@@ -343,8 +350,7 @@ def test_a_start_that_ends_half_way_leaves_no_folder(error: type[BaseException],
                                                      monkeypatch: pytest.MonkeyPatch) -> None:
     monkeypatch.setattr(stage, "add_runs", mock.Mock(side_effect=error))
     with pytest.raises(error):
-        stage.prepare(str(experiment.folder / "plan.toml"), str(experiment.folder / "out.csv"),
-                      str(experiment.pfs.path))
+        prepare(experiment)
     assert not experiment.runs.exists()
 
 
@@ -352,8 +358,7 @@ def test_what_is_gone_has_not_changed(made: Experiment, monkeypatch: pytest.Monk
                                       capsys: pytest.CaptureFixture[str]) -> None:
     """An instance that somebody deletes while a start waits for an earlier one."""
     monkeypatch.setattr(stage, "lock", lambda *_: (made.folder / "shops" / "a").unlink())
-    found = stage.prepare(str(made.folder / "plan.toml"), str(made.folder / "out.csv"), None)
-    assert len(found.runs) == 6 and capsys.readouterr() == ("", "")
+    assert len(prepare(made).runs) == 6 and capsys.readouterr() == ("", "")
 
 
 def test_a_damaged_result_is_made_again_and_a_damaged_plan_is_reported(made: Experiment) -> None:
