@@ -38,11 +38,12 @@ def book_of(path: pathlib.Path, **sheets: list[list[Any]]) -> None:
 
 def test_all_sheets_that_are_tables(tmp_path: pathlib.Path, monkeypatch: pytest.MonkeyPatch,
                                     capsys: pytest.CaptureFixture[str]) -> None:
+    """The first job of a method may differ from sheet to sheet."""
     monkeypatch.chdir(tmp_path)
-    order = " ".join(map(str, range(1, 21)))
+    order, from_0 = (" ".join(map(str, range(first, first + 20))) for first in (1, 0))
     book_of(tmp_path / "a.xlsx", first=[HEAD, ["ta001", "IG", 1448, order], ["ta001", "HGA", "1.448", order]],
             notes=[["some words"]], second=[HEAD[:3], ["ta001", "IG", 1448]],
-            Third=[HEAD, [], ["Ta1", "IG", 1200, order]], empty=[], heads=[HEAD])
+            Third=[HEAD, [], ["Ta1", "IG", 1200, from_0]], empty=[], heads=[HEAD])
     assert run("a.xlsx --csv out.csv") == 1
     *printed, last = capsys.readouterr().out.splitlines()
     assert printed[0] == "sheet first, line 3, ta001 HGA: unclear: cell C3: '1.448' isn't a makespan: a whole number"
@@ -64,11 +65,6 @@ def test_all_sheets_that_are_tables(tmp_path: pathlib.Path, monkeypatch: pytest.
     book_of(tmp_path / "none.xlsx", notes=[["some words"]], empty=[])
     with pytest.raises(pfs.TableFault, match="no sheet is a table of orders: the sheet 'notes' .*; the sheet 'empty'"):
         pfs.audit("none.xlsx")
-
-
-def test_the_first_job_of_a_method_may_differ_from_sheet_to_sheet(tmp_path: pathlib.Path) -> None:
-    book_of(tmp_path / "a.xlsx", one=[HEAD, ["small", "a", 10, "2 1 3"]], zero=[HEAD, ["small", "a", 10, "1 0 2"]])
-    assert [each.valid for each in pfs.audit(tmp_path / "a.xlsx", [SMALL])] == [True, True]
 
 
 def test_which_sheet_is_read(tmp_path: pathlib.Path) -> None:

@@ -560,10 +560,6 @@ command = "./mine {{instance}} {{seed}} {{seconds}} {{name}} {{jobs}} {{machines
 """
 
 
-# Uses 0.3 seconds of processor time, the second half of them in the system.
-BUSY = "import os, time as t\nwhile t.process_time() < 0.15: pass\nwhile t.process_time() < 0.3: os.urandom(9999)\n"
-
-
 def with_other(experiment: Experiment, plan: str, program: str) -> Experiment:
     write_script(experiment.folder / "mine", f"#!/bin/sh\n{program}\n")
     return experiment.plan(plan)
@@ -682,20 +678,17 @@ def test_lines_are_taken_from_any_parts(lines: list[bytes], cuts: list[int]) -> 
     assert printed.text == b"".join(line + b"\n" for line in lines if line not in points)
 
 
-TIMED = {"running": f"python3 -c '{BUSY}print(\"makespan 1 1\", flush=True)\nimport time; time.sleep(0.3)'",
-         "ended": f"(python3 -c '{BUSY}'); echo makespan 1 1",
-         "both": f"python3 -c '{BUSY}'; python3 -c '{BUSY}print(\"makespan 1 1\")'"}
-
-
-@pytest.mark.parametrize(("name", "line"), TIMED.items(), ids=TIMED)
-def test_the_time_of_an_order_is_that_of_all_processes(name: str, line: str, folder: pathlib.Path) -> None:
-    """Of those that run and, in hundredths of a second, of those that have ended."""
+def test_the_time_of_an_order_is_that_of_all_processes(folder: pathlib.Path) -> None:
+    """Of those that run and, in hundredths of a second, of those that have ended. Each of two takes 0.3 seconds of
+    processor time, the second half of them in the system."""
+    busy = "import os, time as t\nwhile t.process_time() < .15: pass\nwhile t.process_time() < .3: os.urandom(9999)\n"
+    line = f"python3 -c '{busy}'; python3 -c '{busy}print(\"makespan 1 1\", flush=True)\nt.sleep(0.3)'"
     code = ("import sys; from pfs.experiments import one\n"
             "_, spent, _, points = one.run_command(['sh', '-c', sys.argv[1]], '.', 9)\n"
             "print(points[0].seconds, spent)\n")
     got = plainly.python("-c", code, line, cwd=folder)
     seconds, spent = map(float, got.stdout.split())
-    assert (0.57 if name == "both" else 0.28) <= seconds <= spent, got
+    assert 0.57 <= seconds <= spent, got
 
 
 def test_a_grid_is_a_method_for_each_combination(experiment: Experiment) -> None:
@@ -1092,13 +1085,6 @@ def test_a_reference_must_name_an_instance_and_status_writes_what_there_is(exper
     assert (experiment.folder / "out.csv").read_bytes() == before and before.count(b"\n") == 5
     assert experiment.columns("seed", "reference", "source") == [
         (seed, *known) for known in (("", ""), ("7", "a paper")) for seed in "21"]
-
-
-def test_two_names_of_an_instance_with_two_makespans_are_two_instances(folder: pathlib.Path) -> None:
-    (folder / "best.csv").write_text("instance,makespan\nB.txt,7\nb.dat,8\nC.txt,9\nc.dat,9\n")
-    found = plan.reference_of(folder / "best.csv")
-    assert [plan.reference_for(found, name) for name in ("x/b", "B.txt", "x/b.dat", "x/c")] == [
-        None, (7, ""), (8, ""), (9, "")]
 
 
 # The pages

@@ -204,6 +204,10 @@ REFERENCES: dict[str, tuple[str, str, list[str], str]] = {
                                     ["", "75.000", "56.500", "", ""], ""),
     "the case": (FOLDERS.replace("/a,", "/A,"), "instance,makespan\na,7\nA,100\nb,50\n",
                  ["", "75.000", "56.500", "", ""], ""),
+    "two makespans of two names": (
+        "instance,makespan,rounds\nx/b,9,1\nx/c,18,2\nB.txt,14,3\n",
+        "instance,makespan\nB.txt,7\nb.dat,8\nC.txt,9\nc.dat,9\n", ["", "100.000", "100.000"],
+        "1 runs of 1 instances have no reference, and no RPD: x/b.\n"),
     "the column after the file": (WITH_COLUMN, "instance,makespan\na,50\na,50\n", ["", "70.000", "55.500", "", ""], ""),
     "0": ("instance,makespan,reference\nb,0,0\nc,1,0\n", "", ["0.000"], ""),
     "a file that names none": ("instance,makespan,reference\na,101,100\n", "instance,makespan\nz,5\n", ["1.000"],
