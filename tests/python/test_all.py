@@ -67,10 +67,7 @@ def test_progress_that_returns_true_or_raises_ends_the_searches() -> None:
     found = pfs.solve_all(shops, [1], 2000, workers=1, progress=lambda done, total: np.bool_(done == 2))
     assert 2 <= len(found) < 8 and found[0, 1] == shops[0].solve(2000, seed=1)
     assert len(pfs.solve_all(SHOPS, [1], 5, workers=1, progress=lambda done, total: 1)) == 3
-    def refuse(done: int, total: int) -> None:
-        if done == 2:
-            raise KeyError("enough")
-
+    refuse = unittest.mock.Mock(side_effect=[None, KeyError("enough")])
     with pytest.raises(KeyError, match="enough") as stop:
         pfs.solve_all(SHOPS, [1], 5, workers=1, progress=refuse)
     found = getattr(stop.value, "found", {})

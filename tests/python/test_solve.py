@@ -155,15 +155,11 @@ def test_what_progress_raises_has_the_solution(cut: Callable[[list[int]], None],
     cut([10])
     shop, raised = pfs.taillard(1), kind("enough")
 
-    def refuse(made: int, makespan: int) -> None:
-        if made == 20:
-            raise raised
-
     class Bar(Closing):
         def close(self) -> None:
             raise raised
 
-    cases: list[tuple[Any, int]] = [(refuse, 20), (Bar, 50)]
+    cases: list[tuple[Any, int]] = [(mock.Mock(spec=[], side_effect=[None, raised]), 20), (Bar, 50)]
     for progress, rounds in cases:
         with pytest.raises(kind, match="enough") as stop:
             shop.solve(50, progress=progress)
@@ -390,11 +386,7 @@ def test_the_history_counts_rounds_from_the_first_and_is_kept(cut: Callable[[lis
     assert rest[0][::2] == (50, half.makespan)
     assert [line[::2] for line in half.history + rest[1:]] == [line[::2] for line in whole]
     assert shop.solve(100, start=range(20)).history == ()
-
-    def interrupt(made: int, makespan: int) -> None:
-        if made == 49:
-            raise KeyboardInterrupt
-
+    interrupt = mock.Mock(spec=[], side_effect=[None] * 6 + [KeyboardInterrupt])
     with pytest.raises(pfs.Interrupted) as stop:
         shop.solve(100, start=range(20), history=True, progress=interrupt)
     assert [line[::2] for line in stop.value.solution.history] == [line[::2] for line in whole if line.round <= 49]
