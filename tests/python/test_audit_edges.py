@@ -311,10 +311,11 @@ def wrong_makespan(kind: str, rows: Rows, at: tuple[int, str], other: int, chanc
     return stated[kind]()
 
 
-def table_of(seed: int) -> tuple[Rows, dict[tuple[int, str], tuple[str, str]]]:
-    """A table of good orders, and of each row whose makespan is wrong the kind of the error and what is told of it.
-    Each second method and the last ten instances of each size have no error."""
-    chance, rows, found = random.Random(seed), Rows(), dict[tuple[int, str], tuple[str, str]]()
+@pytest.mark.parametrize("seed", range(3))
+def test_of_17_wrong_makespans_in_300_rows_16_have_their_cause(seed: int) -> None:
+    """Each second method and the last ten instances of each size have no error. Of each row whose makespan is wrong we
+    know the kind of the error, and what is told of it."""
+    chance, rows, wrong = random.Random(seed), Rows(), dict[tuple[int, str], tuple[str, str]]()
     for number, method in itertools.product(NUMBERS, METHODS):
         shop = pfs.taillard(number)
         order = shop.neh().order.tolist()
@@ -330,13 +331,7 @@ def table_of(seed: int) -> tuple[Rows, dict[tuple[int, str], tuple[str, str]]]:
             other += at[0] // 30 * 30
             stated, right = wrong_makespan(kind, rows, at, other, chance), rows[at]["makespan"]
         rows[at]["makespan"] = stated
-        found[at] = kind, KINDS[kind][1].format(stated, f"ta{other:03}")
-    return rows, found
-
-
-@pytest.mark.parametrize("seed", range(3))
-def test_of_17_wrong_makespans_in_300_rows_16_have_their_cause(seed: int) -> None:
-    rows, wrong = table_of(seed)
+        wrong[at] = kind, KINDS[kind][1].format(stated, f"ta{other:03}")
     audited = dict(zip(rows, pfs.audit(rows.values())))
     assert {at for at, each in audited.items() if not each.valid} == wrong.keys()
     told = {at: audited[at].why.split("; ")[1:] for at in wrong}
