@@ -168,7 +168,8 @@ def test_names_stay_in_their_cells_and_are_escaped(report: Reported, folder: pat
     """They aren't read as marks in Markdown, formulas in a spreadsheet, or codes on a terminal or in a picture."""
     rows = {"instance": "a|b/=i", "makespan": range(10, 26), "method": NAMES, "seconds": 0.5, "jobs": 3, "machines": 2,
             "rounds": [at // 4 for at in range(10, 26)], "take": 1, "passes": 0}
-    got = report(pandas.DataFrame(rows).to_csv(index=False), "--format", "svg")
+    with mock.patch.object(typed, "by_rounds", return_value=None):  # where each name has a panel
+        got = report(pandas.DataFrame(rows).to_csv(index=False), "--format", "svg")
     assert got.status == 0 and "\x1b" not in got.stdout + got.stderr, got.stderr
     for path in (folder / "report").glob("*.md"):
         lines = path.read_text().partition("\n\n")[0].splitlines()
@@ -227,7 +228,8 @@ def test_the_rpd_is_relative_to_the_reference(text: str, best: str, means: list[
                                               folder: pathlib.Path) -> None:
     """By an instance's name, or the last part of its path; else by the column, if any has a reference there; else the
     best known one by its name and size. The others have no RPD."""
-    got = report(text, **({"best": best} if best else {}))
+    with mock.patch.object(typed, "plot"):
+        got = report(text, **({"best": best} if best else {}))
     assert got.status == 0 and said in got.stdout
     assert column(folder, "mean_rpd_percent") == means
 
