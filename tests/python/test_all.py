@@ -21,9 +21,11 @@ from support import plainly
 SHOPS = [pfs.generate(8, 3, 1), pfs.generate(9, 2, 2), pfs.generate(8, 3, 1)]
 
 
-@pytest.mark.parametrize("workers", [1, 3])
-def test_the_solutions_are_those_of_each_search(workers: int) -> None:
-    words: dict[str, Any] = {"take": 2, "passes": 1}
+LONGER: dict[str, Any] = {"method": "iterated-greedy", "partial": 2, "ties": "first", "temperature": 40}
+
+
+@pytest.mark.parametrize(("workers", "words"), [(1, {"take": 2, "passes": 1}), (3, LONGER)])
+def test_the_solutions_are_those_of_each_search(workers: int, words: dict[str, Any]) -> None:
     got: list[tuple[int, ...]] = []
     found = pfs.solve_all(iter(SHOPS), (seed for seed in (5, 2**64 - 1)), 40, workers=workers,
                           progress=lambda *line: got.append(line), **words)
@@ -51,6 +53,9 @@ def test_what_was_found_is_not_searched_again() -> None:
                           progress=lambda *line: got.append(line))
     assert found == {(0, 1): SHOPS[0].solve(40, seed=1), (1, 1): whole}
     assert got == [(2, 2)], "a finished search is made again"
+    large = pfs.generate(30, 8, 9)
+    assert pfs.solve_all([large], [0], 60, **LONGER, found={(0, 0): large.solve(20, **LONGER)}) == {
+        (0, 0): large.solve(60, **LONGER)}
     shop = pfs.taillard(1)
     near = shop.solve(124)
     assert pfs.solve_all([shop], [0], 1000, target=1278, found={(0, 0): near}) == {(0, 0): near}
@@ -62,10 +67,7 @@ def test_progress_that_returns_true_or_raises_ends_the_searches() -> None:
     found = pfs.solve_all(shops, [1], 2000, workers=1, progress=lambda done, total: np.bool_(done == 2))
     assert 2 <= len(found) < 8 and found[0, 1] == shops[0].solve(2000, seed=1)
     assert len(pfs.solve_all(SHOPS, [1], 5, workers=1, progress=lambda done, total: 1)) == 3
-    def refuse(done: int, total: int) -> None:
-        if done == 2:
-            raise KeyError("enough")
-
+    refuse = unittest.mock.Mock(side_effect=[None, KeyError("enough")])
     with pytest.raises(KeyError, match="enough") as stop:
         pfs.solve_all(SHOPS, [1], 5, workers=1, progress=refuse)
     found = getattr(stop.value, "found", {})
@@ -115,10 +117,10 @@ def interrupted(folder: pathlib.Path, words: str, *seconds: float) -> str:
     return printed
 
 
-def rounds_in(folder: pathlib.Path) -> dict[tuple[int, int], int]:
-    """The rounds of each search that was interrupted."""
-    with open(folder / "found", "rb") as file:
-        return {key: best.rounds for key, best in pickle.load(file).items()}
+def found_in(folder: pathlib.Path) -> dict[tuple[int, int], pfs.Solution]:
+    """What a script has found."""
+    found: dict[tuple[int, int], pfs.Solution] = pickle.loads((folder / "found").read_bytes())
+    return found
 
 
 @pytest.mark.seconds(20)
@@ -127,20 +129,13 @@ def test_after_ctrl_c_the_searches_continue(tmp_path: pathlib.Path) -> None:
     made: dict[tuple[int, int], int] = {}
     for seconds in ([0.15], [0.15, 0.01], [0.15]):
         assert "interrupted" in interrupted(tmp_path, "rounds", *seconds)
-        now = rounds_in(tmp_path)
+        now = {key: best.rounds for key, best in found_in(tmp_path).items()}
         assert sum(now.values()) > sum(made.values()) and all(now.get(key, 0) >= made[key] for key in made), (
             f"rounds are lost by Ctrl-C: {made} before, {now} after it")
         made = now
     assert interrupted(tmp_path, "rounds") == "done\n"
-    with open(tmp_path / "found", "rb") as file:
-        found = pickle.load(file)
-    assert found == {(place, seed): pfs.generate(60, 10, place + 1).solve(150_000, seed=seed)
-                     for place in range(3) for seed in (1, 2)}
-
-
-@pytest.mark.parametrize("milliseconds", range(0, 30, 3))
-def test_ctrl_c_while_the_searches_start(tmp_path: pathlib.Path, milliseconds: int) -> None:
-    assert interrupted(tmp_path, "rounds", 0.005 + milliseconds / 1000).startswith("interrupted")
+    assert found_in(tmp_path) == {(place, seed): pfs.generate(60, 10, place + 1).solve(150_000, seed=seed)
+                                  for place in range(3) for seed in (1, 2)}
 
 
 def test_a_search_by_time_that_is_interrupted_is_not_kept(tmp_path: pathlib.Path) -> None:
@@ -200,12 +195,9 @@ def test_a_thread_that_cant_be_started_and_memory_that_runs_out(monkeypatch: pyt
     ({"instances": [[[1]]]}, TypeError, r"instances: \[\[1\]\] at place 0 isn't an Instance"),
     ({"seeds": [1, 2, 1]}, ValueError, "seeds: 1 occurs twice"),
     ({"seeds": [-1]}, ValueError, "seed must be from 0 to [0-9,]+, not -1"),
-    ({"seeds": [True]}, TypeError, "seed must be an integer, not True"),
     ({"take": 9}, ValueError, "take must be from 1 to 8, not 9"),
     ({"time_limit": -1}, ValueError, "time_limit must be 0 or more seconds, not -1.0"),
-    ({"target": -1}, ValueError, "target must be from .*, not -1"),
     ({"workers": 0}, ValueError, "workers must be from 1 to 1,000, not 0"),
-    ({"workers": 1.5}, TypeError, "workers must be an integer"),
     ({"progress": 3}, TypeError, "progress must be callable"),
     ({"found": {(0, 1): 7}}, TypeError, "found must contain solutions, not 7"),
     ({"found": {(0, 1): pfs.generate(8, 2, 1).neh()}}, ValueError,

@@ -1,6 +1,7 @@
 """Audits of tables as people have them: workbooks, forms of orders, rows that can't be audited, and causes of wrong
 makespans. Expected makespans are those of the second program of the tests."""
 import io
+import itertools
 import pathlib
 import random
 import re
@@ -37,11 +38,12 @@ def book_of(path: pathlib.Path, **sheets: list[list[Any]]) -> None:
 
 def test_all_sheets_that_are_tables(tmp_path: pathlib.Path, monkeypatch: pytest.MonkeyPatch,
                                     capsys: pytest.CaptureFixture[str]) -> None:
+    """The first job of a method may differ from sheet to sheet."""
     monkeypatch.chdir(tmp_path)
-    order = " ".join(map(str, range(1, 21)))
+    order, from_0 = (" ".join(map(str, range(first, first + 20))) for first in (1, 0))
     book_of(tmp_path / "a.xlsx", first=[HEAD, ["ta001", "IG", 1448, order], ["ta001", "HGA", "1.448", order]],
             notes=[["some words"]], second=[HEAD[:3], ["ta001", "IG", 1448]],
-            Third=[HEAD, [], ["Ta1", "IG", 1200, order]], empty=[], heads=[HEAD])
+            Third=[HEAD, [], ["Ta1", "IG", 1200, from_0]], empty=[], heads=[HEAD])
     assert run("a.xlsx --csv out.csv") == 1
     *printed, last = capsys.readouterr().out.splitlines()
     assert printed[0] == "sheet first, line 3, ta001 HGA: unclear: cell C3: '1.448' isn't a makespan: a whole number"
@@ -63,11 +65,6 @@ def test_all_sheets_that_are_tables(tmp_path: pathlib.Path, monkeypatch: pytest.
     book_of(tmp_path / "none.xlsx", notes=[["some words"]], empty=[])
     with pytest.raises(pfs.TableFault, match="no sheet is a table of orders: the sheet 'notes' .*; the sheet 'empty'"):
         pfs.audit("none.xlsx")
-
-
-def test_the_first_job_of_a_method_may_differ_from_sheet_to_sheet(tmp_path: pathlib.Path) -> None:
-    book_of(tmp_path / "a.xlsx", one=[HEAD, ["small", "a", 10, "2 1 3"]], zero=[HEAD, ["small", "a", 10, "1 0 2"]])
-    assert [each.valid for each in pfs.audit(tmp_path / "a.xlsx", [SMALL])] == [True, True]
 
 
 def test_which_sheet_is_read(tmp_path: pathlib.Path) -> None:
@@ -171,12 +168,15 @@ def test_three_zeros_after_a_point_may_be_thousands(stated: Any, is_clear: bool)
     assert (found.verdict == "unclear") != is_clear and found.valid == is_clear and len(found.why) < 200
 
 
-def test_missing_values_of_pandas_own_types() -> None:
+def test_missing_values_and_columns_of_frames() -> None:
     text = "instance,makespan,order,method,block\nsmall,10,2 1 3,IG,\nsmall,10,2 1 3,,\nsmall,,2 1 3,IG,\n,10,,,\n"
     frame = pandas.read_csv(io.StringIO(text))
     for each in (frame, frame.convert_dtypes()):
         assert [(row.method, row.verdict) for row in pfs.audit(each, [SMALL])] == [
             ("IG", "valid and optimal"), ("", "valid and optimal"), ("IG", "unclear"), ("", "unclear")]
+    with pytest.raises(ValueError, match="the table has no column order .*, but 'instance', 'makespan'"):
+        pfs.audit(frame[HEAD[::2]])
+    assert pfs.audit([]) == pfs.audit(frame[:0]) == []
 
 
 @pytest.mark.parametrize("head", [
@@ -184,12 +184,6 @@ def test_missing_values_of_pandas_own_types() -> None:
 def test_names_of_columns(head: str, tmp_path: pathlib.Path) -> None:
     (tmp_path / "t").write_text(f"{head}\nsmall;10;2 1 3\n")
     assert pfs.audit(tmp_path / "t", [SMALL])[0].valid
-
-
-def test_columns_that_are_missing_are_named_with_what_was_found() -> None:
-    with pytest.raises(ValueError, match="the table has no column order .*, but 'instance', 'makespan'"):
-        pfs.audit(pandas.DataFrame({"instance": ["a"], "makespan": [1]}))
-    assert pfs.audit([]) == [] and pfs.audit(pandas.DataFrame(columns=HEAD)) == []
 
 
 @pytest.mark.parametrize("name", ["Ta1", "TA01", "ta001", "Ta001.txt", "tai20_5:1", "x/ta1"])
@@ -214,7 +208,7 @@ def test_no_file_that_is_read_is_replaced(tmp_path: pathlib.Path, monkeypatch: p
     pathlib.Path("link").symlink_to("f/g/small.txt")
     pathlib.Path("hard").hardlink_to("t.csv")
     for path in ("t.csv", "hard", "f/g/small.txt", "link"):
-        with pytest.raises(ExperimentError, match=f"{path} is read, and writing would replace it"):
+        with pytest.raises(ExperimentError, match=f"{path} is read, and writing would replace it: name another file"):
             run(f"t.csv --instances f --csv {path}")
     assert pathlib.Path("f/g/small.txt").read_text() == before
     assert run("t.csv --instances f --csv out.csv") == 0 and run("t.csv --instances f --csv out.csv") == 0
@@ -280,7 +274,8 @@ def test_jobs_that_were_exchanged() -> None:
     assert checked > 20
 
 
-# The instances of a table of 300 rows, and the methods.
+# The rows of a table by the number of the instance and the method, and 300 of these.
+Rows = dict[tuple[int, str], dict[str, Any]]
 NUMBERS, METHODS = (*range(1, 26), *range(31, 56), *range(61, 86)), ["NEH", "IG", "HGA", "TS"]
 # Of 17 errors how often each is made, and what is told of it; nothing of the last one, which no audit can know.
 KINDS = {"of another instance": (2, "the order takes {} on {}"), "reversed": (2, "the reversed order takes {}"),
@@ -292,69 +287,53 @@ KINDS = {"of another instance": (2, "the order takes {} on {}"), "reversed": (2,
          "of another row": (1, "states it for {1}"), "machines": (1, "no cause")}
 
 
-def shop_of(given: dict[str, Any]) -> pfs.Instance:
-    return pfs.taillard(int(given["instance"][2:]))
-
-
-def wrong_makespan(kind: str, rows: list[dict[str, Any]], at: int, chance: random.Random) -> tuple[int, str, set[int]]:
-    """A makespan that somebody states by an error of this kind, the name of another instance, and the rows that it may
-    be of."""
-    order = [job - 1 for job in rows[at]["order"]]
-    shop, count = shop_of(rows[at]), len(order)
-    first = at - at % 100
-    like = [other for other in range(first, first + 100)
-            if other % 4 == at % 4 and shop_of(rows[other]).machines == shop.machines and other != at]
-    other_at, method_at = chance.choice(like), at - at % 4 + (at + 1) % 4
-    other = rows[other_at]
-    one = chance.randrange(count - 1)
-    two = one + 1 if kind == "neighbours" else chance.randrange(one + 1, count)
+def wrong_makespan(kind: str, rows: Rows, at: tuple[int, str], other: int, chance: random.Random) -> int:
+    """A makespan that somebody states by an error of this kind, perhaps with another instance."""
+    number, method = at
+    shop, order = pfs.taillard(number), [job - 1 for job in rows[at]["order"]]
+    one, two = sorted(chance.sample(range(shop.jobs), 2))
+    two = one + 1 if kind == "neighbours" else two
     swapped = order.copy()
     swapped[one], swapped[two] = order[two], order[one]
     flat = shop.times.T.flatten().tolist()
     turned = shop.times[:, [1, 0, *range(2, shop.machines)]]
     stated: dict[str, Callable[[], int]] = {
-        "of another instance": lambda: makespan(shop_of(other), order),
+        "of another instance": lambda: makespan(pfs.taillard(other), order),
         "reversed": lambda: makespan(shop, order[::-1]), "a digit is lost": lambda: makespan(shop, order) // 10,
-        "places": lambda: makespan(shop, [order.index(job) for job in range(count)]),
+        "places": lambda: makespan(shop, [order.index(job) for job in range(shop.jobs)]),
         "read job by job": lambda: plainly.makespan(np.reshape(flat, shop.times.shape).tolist(), order),
-        "sum": lambda: sum(makespan(shop, order[:length]) for length in range(1, count + 1)),
+        "sum": lambda: sum(makespan(shop, order[:length]) for length in range(1, shop.jobs + 1)),
         "best known": lambda: shop.upper, "neighbours": lambda: makespan(shop, swapped),
         "two jobs": lambda: makespan(shop, swapped),
-        "of another method": lambda: int(rows[method_at]["makespan"]),
-        "of another row": lambda: int(other["makespan"]),
+        "of another method": lambda: int(rows[number, METHODS[METHODS.index(method) - 1]]["makespan"]),
+        "of another row": lambda: int(rows[other, method]["makespan"]),
         "machines": lambda: plainly.makespan(turned.tolist(), order)}
-    return stated[kind](), str(other["instance"]), {other_at, method_at}
-
-
-def table_of(seed: int) -> tuple[list[dict[str, Any]], dict[int, tuple[str, str]]]:
-    """A table of good orders, and of each row whose makespan is wrong the kind of the error and what is told of it."""
-    chance, rows, found = random.Random(seed), list[dict[str, Any]](), dict[int, tuple[str, str]]()
-    for number in NUMBERS:
-        shop = pfs.taillard(number)
-        for method in METHODS:
-            order = shop.neh().order.tolist()
-            for _ in range(METHODS.index(method) * 2):
-                order.insert(chance.randrange(len(order)), order.pop(chance.randrange(len(order))))
-            rows.append(row(f"ta{number:03}", order, makespan(shop, order), method))
-    right = [dict(each) for each in rows]
-    free, kept = chance.sample(range(len(rows)), len(rows)), set[int]()
-    for kind, (count, text) in KINDS.items():
-        for _ in range(count):
-            while True:
-                at = free.pop()
-                stated, name, sources = wrong_makespan(kind, right, at, chance)
-                if abs(stated - right[at]["makespan"]) > 1 and at not in kept and not sources & found.keys():
-                    break
-            rows[at]["makespan"], found[at] = stated, (kind, text.format(stated, name))
-            kept |= sources
-    return rows, found
+    return stated[kind]()
 
 
 @pytest.mark.parametrize("seed", range(3))
 def test_of_17_wrong_makespans_in_300_rows_16_have_their_cause(seed: int) -> None:
-    rows, wrong = table_of(seed)
-    audited = pfs.audit(rows)
-    assert {at for at, each in enumerate(audited) if not each.valid} == wrong.keys()
+    """Each second method and the last ten instances of each size have no error. Of each row whose makespan is wrong we
+    know the kind of the error, and what is told of it."""
+    chance, rows, wrong = random.Random(seed), Rows(), dict[tuple[int, str], tuple[str, str]]()
+    for number, method in itertools.product(NUMBERS, METHODS):
+        shop = pfs.taillard(number)
+        order = shop.neh().order.tolist()
+        for _ in range(METHODS.index(method) * 2):
+            order.insert(chance.randrange(len(order)), order.pop(chance.randrange(len(order))))
+        rows[number, method] = row(f"ta{number:03}", order, makespan(shop, order), method)
+    free = [at for at in rows if at[0] % 30 < 16 and at[1] in METHODS[1::2]]
+    chance.shuffle(free)
+    for kind in [kind for kind, (count, _) in KINDS.items() for _ in range(count)]:
+        stated = right = 0
+        while abs(stated - right) < 2:
+            at, other = free.pop(), chance.randrange(16, 26)
+            other += at[0] // 30 * 30
+            stated, right = wrong_makespan(kind, rows, at, other, chance), rows[at]["makespan"]
+        rows[at]["makespan"] = stated
+        wrong[at] = kind, KINDS[kind][1].format(stated, f"ta{other:03}")
+    audited = dict(zip(rows, pfs.audit(rows.values())))
+    assert {at for at, each in audited.items() if not each.valid} == wrong.keys()
     told = {at: audited[at].why.split("; ")[1:] for at in wrong}
     unexplained = [kind for at, (kind, text) in wrong.items() if not any(text in hint for hint in told[at])]
     assert unexplained == ["machines"]

@@ -10,11 +10,11 @@ import sys
 from typing import Any
 from unittest import mock
 
-import pfs as package
 import pytest
 from pfs.experiments import one, stage
 from pfs.experiments.one import Failed, Found, Point
-from support.files import FILES, TWO_BLOCKS, generated
+from support import plainly
+from support.files import FILES, TWO_BLOCKS
 from support.library import Library
 from support.program import Program
 from support.tools import wait_until, write_script
@@ -22,7 +22,6 @@ from support.tools import wait_until, write_script
 # The second of two blocks has three jobs. 10 is the makespan of 2 1 3 and a bound, and 11 is the makespan of 1 2 3.
 RUN = one.Run("7", "1", "orlib", "2", "5", "-", "2", "1", "7", "1", "-", "3", "2", "shops/two.or", "m", "-")
 EIGHT = RUN._replace(file="2", layout="taillard", block="1")
-TWENTY = EIGHT._replace(file="3")
 BEST, OTHER = "order 3\n2 1 3\nmakespan 10\n", "order 3\n1 2 3\nmakespan 11\n"
 
 
@@ -32,8 +31,8 @@ def copies(folder: pathlib.Path, pfs: Program, libpfs: Library, monkeypatch: pyt
     stage.begin(folder, str(pfs.path))
     made = folder / stage.stage_of(folder)
     stage.copy(str(libpfs.path), made / one.LIBRARY)
-    for number, text in enumerate((TWO_BLOCKS, FILES["eight"], generated(20, 5, 873654221)), 1):
-        (made / str(number)).write_bytes(text)
+    (made / "1").write_bytes(TWO_BLOCKS)
+    (made / "2").write_bytes(FILES["eight"])
     monkeypatch.setattr(one, "HERE", str(made))
     return made
 
@@ -68,27 +67,6 @@ def test_a_program_that_prints_something_else_fails_its_run(copies: pathlib.Path
 
 
 # Searches with the library
-
-def test_a_search_by_time_is_that_of_its_rounds(copies: pathlib.Path) -> None:
-    """Its trajectory begins with the makespan of NEH and ends with its own, at times since its start."""
-    run = TWENTY._replace(limit="0.05", rounds="-")
-    found = one.by_library(run, None)
-    neh, again = (one.by_rounds(run._replace(rounds=rounds)) for rounds in ("0", found.rounds))
-    assert (found.order, found.cells, found.left) == (again.order, again.cells, 0) and int(found.rounds) > 10
-    seconds, spans, orders = zip(*found.points)
-    assert 0 < seconds[0] < seconds[-1] <= found.seconds < 0.5 and sorted({*seconds}) == [*seconds]
-    assert f"makespan {spans[0]}\n" in neh.order and f"makespan {spans[-1]}\n" in found.order
-    assert sorted({*spans}, reverse=True) == [*spans] and {*orders} == {""}
-
-
-def test_the_search_that_accepts_longer_orders_is_that_of_the_package(copies: pathlib.Path) -> None:
-    """By rounds it has no trajectory."""
-    options: dict[str, Any] = {"partial": 2, "ties": "first", "temperature": 40}
-    shop = package.read(copies / TWENTY.file, "taillard")
-    wanted = shop.solve(method="iterated-greedy", rounds=30, take=2, passes=1, seed=7, **options).to_text()
-    found = one.by_library(TWENTY._replace(rounds="30"), options)
-    assert found == Found(wanted, "", mock.ANY, "", 0, []) and 0 < found.seconds < 60
-
 
 def test_a_library_that_fails_fails_its_run(copies: pathlib.Path) -> None:
     """One that has no memory, lacks a function or is missing."""
@@ -202,8 +180,7 @@ def test_the_starter_is_the_parent_and_its_parent(monkeypatch: pytest.MonkeyPatc
 def test_a_command_ends_with_the_process_that_runs_it(number: signal.Signals, folder: pathlib.Path) -> None:
     line = "echo $$ > part; mv part started; exec sleep 60"
     code = f"from pfs.experiments import one; one.run_command(['sh', '-c', {line!r}], '.', None)"
-    env = dict(os.environ, PYTHONPATH=str(pathlib.Path(one.__file__).parents[2]))
-    with subprocess.Popen(["/usr/bin/python3", "-B", "-c", code], cwd=folder, env=env) as process:
+    with subprocess.Popen([sys.executable, "-c", code], cwd=folder, env=plainly.environment()) as process:
         wait_until((folder / "started").exists, "the command has started")
         process.send_signal(number)
     assert process.returncode == (143 if number == signal.SIGTERM else -9)

@@ -76,13 +76,13 @@ def test_what_is_proved_stays_with_the_solution() -> None:
         shop.solve(0, start=range(20), prove=60).order[0] = 1
 
 
-def nodes_asked(monkeypatch: pytest.MonkeyPatch) -> list[int]:
-    """The nodes of each call of the library from now on."""
+def nodes_asked(monkeypatch: pytest.MonkeyPatch, refused: int | None = None) -> list[int]:
+    """The nodes of each call of the library from now on. The one of a number has no memory."""
     asked, real = list[int](), _library.library.pfs_prove
 
     def noting(*given: Any) -> int:
         asked.append(given[3])
-        return int(real(*given))
+        return _library.MEMORY if len(asked) == refused else int(real(*given))
 
     monkeypatch.setattr(_library.library, "pfs_prove", noting)
     return asked
@@ -163,13 +163,7 @@ def test_an_interruption_has_the_best_order_so_far() -> None:
 
 @pytest.mark.parametrize("call", [1, 3])
 def test_memory_that_runs_out_loses_nothing(monkeypatch: pytest.MonkeyPatch, call: int) -> None:
-    calls, real = list[int](), _library.library.pfs_prove
-
-    def refusing(*given: Any) -> int:
-        calls.append(1)
-        return _library.MEMORY if len(calls) == call else int(real(*given))
-
-    monkeypatch.setattr(_library.library, "pfs_prove", refusing)
+    nodes_asked(monkeypatch, refused=call)
     shop = pfs.taillard(HARD)
     with pytest.raises(MemoryError, match="memory allocation failed") as stop:
         shop.solve(5, prove=60)
@@ -178,10 +172,7 @@ def test_memory_that_runs_out_loses_nothing(monkeypatch: pytest.MonkeyPatch, cal
 
 
 def test_without_a_thread_nothing_is_proved(monkeypatch: pytest.MonkeyPatch) -> None:
-    def refuse(_: threading.Thread) -> None:
-        raise RuntimeError("can't start new thread")
-
-    monkeypatch.setattr(_proof.Call, "start", refuse)
+    monkeypatch.setattr(_proof.Call, "start", mock.Mock(side_effect=RuntimeError("can't start new thread")))
     shop = pfs.taillard(1)
     best = shop.solve(1000, prove=60)
     assert (best, best.bound, best.optimal) == (shop.solve(1000), shop.bound(), False)

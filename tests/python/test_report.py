@@ -107,7 +107,6 @@ def test_a_report_has_its_table_and_its_plots(ending: str, begin: bytes, report:
 GAP, SECONDS = "the column gap_percent, from -100 to 1e+20", "the column seconds, from 0 to 1e+12"
 BAD = [("20,5,0", "20,5,0.5", "'0.5' is not a number of the column rounds, from 0 to 1e+09"),
        *(("10.0000", each, f"{each!r} is not a number of {GAP}") for each in ("-101", "nan", "x", "1.1e20")),
-       ("ok\n", "ok,a,b,c,d\n", "a row has more cells than the first line"), (REPORTED[len(HEAD):], "", "no rows"),
        (",110,", f",{'1' * 320},", f"'{'1' * 40}' is not a number of the column makespan, from 0 to 1e+18"),
        *(("0.001000", each, f"{each!r} is not a number of {SECONDS}")
          for each in ("inf", "1_0", "-1", "\N{ARABIC-INDIC DIGIT ONE}"))]
@@ -118,7 +117,6 @@ WORDS = [(4, "none.csv report", "none.csv: "), (3, "--width 0 out.csv report", "
          (4, "--reference none out.csv report", "none: "),
          (2, "--reference other.csv out.csv report", "other.csv: no column instance, makespan"),
          (2, "--reference two.csv out.csv report", "two.csv: a has two makespans"),
-         (2, "--reference ranks.csv out.csv report", "ranks.csv: two columns are named 'makespan'"),
          (2, "--reference three.csv out.csv report", "three.csv: '1.000' is not a whole number of at most 18 digits"),
          (2, "out.csv ./out.csv report", "a CSV is named twice, and its runs would count twice"),
          (2, "--reference ranks.csv out.csv .", "ranks.csv is read, and writing would replace it"),
@@ -170,7 +168,8 @@ def test_names_stay_in_their_cells_and_are_escaped(report: Reported, folder: pat
     """They aren't read as marks in Markdown, formulas in a spreadsheet, or codes on a terminal or in a picture."""
     rows = {"instance": "a|b/=i", "makespan": range(10, 26), "method": NAMES, "seconds": 0.5, "jobs": 3, "machines": 2,
             "rounds": [at // 4 for at in range(10, 26)], "take": 1, "passes": 0}
-    got = report(pandas.DataFrame(rows).to_csv(index=False), "--format", "svg")
+    with mock.patch.object(typed, "by_rounds", return_value=None):  # where each name has a panel
+        got = report(pandas.DataFrame(rows).to_csv(index=False), "--format", "svg")
     assert got.status == 0 and "\x1b" not in got.stdout + got.stderr, got.stderr
     for path in (folder / "report").glob("*.md"):
         lines = path.read_text().partition("\n\n")[0].splitlines()
@@ -206,6 +205,10 @@ REFERENCES: dict[str, tuple[str, str, list[str], str]] = {
                                     ["", "75.000", "56.500", "", ""], ""),
     "the case": (FOLDERS.replace("/a,", "/A,"), "instance,makespan\na,7\nA,100\nb,50\n",
                  ["", "75.000", "56.500", "", ""], ""),
+    "two makespans of two names": (
+        "instance,makespan,rounds\nx/b,9,1\nx/c,18,2\nB.txt,14,3\n",
+        "instance,makespan\nB.txt,7\nb.dat,8\nC.txt,9\nc.dat,9\n", ["", "100.000", "100.000"],
+        "1 runs of 1 instances have no reference, and no RPD: x/b.\n"),
     "the column after the file": (WITH_COLUMN, "instance,makespan\na,50\na,50\n", ["", "70.000", "55.500", "", ""], ""),
     "0": ("instance,makespan,reference\nb,0,0\nc,1,0\n", "", ["0.000"], ""),
     "a file that names none": ("instance,makespan,reference\na,101,100\n", "instance,makespan\nz,5\n", ["1.000"],
@@ -225,7 +228,8 @@ def test_the_rpd_is_relative_to_the_reference(text: str, best: str, means: list[
                                               folder: pathlib.Path) -> None:
     """By an instance's name, or the last part of its path; else by the column, if any has a reference there; else the
     best known one by its name and size. The others have no RPD."""
-    got = report(text, **({"best": best} if best else {}))
+    with mock.patch.object(typed, "plot"):
+        got = report(text, **({"best": best} if best else {}))
     assert got.status == 0 and said in got.stdout
     assert column(folder, "mean_rpd_percent") == means
 
@@ -252,8 +256,7 @@ def test_a_makespan_below_the_bound_is_an_error(text: str, report: Reported) -> 
                               f"{int(makespan) + 1}: no order has it\n")
 
 
-def test_orders_are_audited_where_the_instance_is_at_hand(experiment: Experiment, with_library: dict[str, str],
-                                                          report: Reported) -> None:
+def test_orders_are_audited_where_the_instance_is_at_hand(experiment: Experiment, report: Reported) -> None:
     """As one of Taillard's, or next to a CSV as long as the folder there is whole. The makespan of the order 1 2 3 ..
     of ta001 is 1448."""
     folder, order = experiment.folder, " ".join(map(str, range(1, 21)))
@@ -276,8 +279,8 @@ def test_orders_are_audited_where_the_instance_is_at_hand(experiment: Experiment
     assert csv_rows(folder / "report" / "best.csv") == [dict(instance="ta001", method="out", makespan="1448",
                                                              order=order)], "the best order of each instance, once"
     (folder / "report" / "best.csv").rename(folder / "\udcff.csv")
-    got = run_tool([experiment.scripts / "pfs-experiments", "audit", "\udcff.csv"], folder, env=with_library)
-    assert got.stdout == "\\udcff.csv: 1 orders audited, 1 valid (0 optimal), 0 wrong\n"
+    assert experiment.script("audit", "\udcff.csv").stdout == (
+        "\\udcff.csv: 1 orders audited, 1 valid (0 optimal), 0 wrong\n")
     unclear = f"ta001,1,1448,{order}\nta002,1,1400,{' '.join(map(str, range(20)))}\n"
     assert "1 orders of out.csv count jobs from 0 and as many from 1" in report_of(unclear).stderr
     for text, why in wrong.items():
@@ -678,16 +681,12 @@ def labels_of(figure: Any) -> tuple[str, str, str]:
     ((7, 1000), "symlog", (7, 1000))])
 def test_many_rounds_have_a_logarithmic_scale(rounds: tuple[int, ...], scale: str, ends: tuple[int, int],
                                               done: Callable[[str], Any]) -> None:
-    """With 0 before the rest."""
     text = "".join(f"a,20,5,{each},4,0,1,1,110,100,10.0,1000,0.1,ok\n" for each in rounds)
     figure = reports.by_rounds(done(HEAD + text), "gap_percent", "y", "title", None)
     axis = figure.axes[0]
     assert labels_of(figure) == ("rounds of iterated greedy", "y", "jobs×machines")
     assert (axis.get_xscale(), axis.get_xlim()) == (scale, ends)
     assert axis.xaxis.get_major_formatter()(1000) == "1,000" and len(axis.xaxis.get_minorticklocs()) == 0
-    if scale == "symlog":
-        places = [axis.transData.transform((at, 0))[0] for at in (0, min(filter(None, rounds)), ends[1])]
-        assert places == sorted(places)
 
 
 @pytest.mark.parametrize(("seconds", "ends"), [

@@ -25,10 +25,6 @@ def simulated(times: Table, starts: Table, ends: Table, at: int, down: dict[int,
     return new
 
 
-def ends_of(times: Table) -> Table:
-    return np.array([[end for _, end in row] for row in plainly.schedule(times.tolist(), range(len(times)))])
-
-
 @pytest.mark.seconds(5)
 @pytest.mark.parametrize("seed", range(4))
 def test_the_rest_ends_when_the_plan_does(seed: int) -> None:
@@ -52,7 +48,9 @@ def test_the_rest_ends_when_the_plan_does(seed: int) -> None:
         # Machines that no job needs any more may stay down.
         needed = {machine: until for machine, until in down.items()
                   if ((ends[:, machine] > at) & (times[:, machine] > 0)).any()}
-        wanted, own = simulated(times, starts, ends, at, needed), ends_of(left.times) + at
+        wanted = simulated(times, starts, ends, at, needed)
+        rows = plainly.schedule(left.times.tolist(), range(left.jobs))
+        own = np.array([[end for _, end in row] for row in rows]) + at
         begun = {str(job) for job in range(jobs) if ((starts[job] < at) & (times[job] > 0)).any()}
         assert not begun.intersection(names[held:]), "what has begun isn't held"
         assert not any("down" in name for name in names[held:])

@@ -138,20 +138,15 @@ class Closing:
         type(self).closed += 1
 
 
-@pytest.mark.parametrize(("make", "closed"), [(lambda: Closing(300), 0), (lambda: Closing, 1)], ids=["bar", "class"])
-def test_a_bar_is_moved(make: Callable[[], Any], closed: int) -> None:
+def test_a_bar_is_moved() -> None:
     """One that the search has made of a class is also closed."""
-    found = pfs.taillard(1).solve(300, progress=make())
-    assert (Closing.total, Closing.made, Closing.makespan, Closing.closed) == (300, 300, found.makespan, closed)
-
-
-def test_tqdm() -> None:
-    tqdm = pytest.importorskip("tqdm").tqdm
+    found = pfs.taillard(1).solve(300, progress=Closing)
+    assert (Closing.total, Closing.made, Closing.makespan, Closing.closed) == (300, 300, found.makespan, 1)
     got = io.StringIO()
-    with tqdm(total=500, file=got) as bar:
-        found = pfs.taillard(1).solve(500, progress=bar)
-    assert bar.n == 500
-    assert f"makespan={found.makespan}" in got.getvalue() and "500/500" in got.getvalue()
+    with pytest.importorskip("tqdm").tqdm(total=300, file=got) as bar:
+        assert pfs.taillard(1).solve(300, progress=bar) == found
+        assert bar.n == 300 and not bar.disable, "one of the caller's is closed"
+    assert f"makespan={found.makespan}" in got.getvalue() and "300/300" in got.getvalue()
 
 
 @pytest.mark.parametrize("kind", [KeyError, OSError, SystemExit, MemoryError])
@@ -160,15 +155,11 @@ def test_what_progress_raises_has_the_solution(cut: Callable[[list[int]], None],
     cut([10])
     shop, raised = pfs.taillard(1), kind("enough")
 
-    def refuse(made: int, makespan: int) -> None:
-        if made == 20:
-            raise raised
-
     class Bar(Closing):
         def close(self) -> None:
             raise raised
 
-    cases: list[tuple[Any, int]] = [(refuse, 20), (Bar, 50)]
+    cases: list[tuple[Any, int]] = [(mock.Mock(spec=[], side_effect=[None, raised]), 20), (Bar, 50)]
     for progress, rounds in cases:
         with pytest.raises(kind, match="enough") as stop:
             shop.solve(50, progress=progress)
@@ -184,11 +175,7 @@ def test_memory_that_runs_out_loses_nothing(cut: Callable[[list[int]], None],
     cut([10])
     shop = pfs.taillard(1)
     whole = shop.solve(30)
-    calls, real = 0, _library.library
-
-    class Library:
-        def __getattr__(self, name: str) -> Any:
-            return refusing if name == "pfs_rounds" else getattr(real, name)
+    calls, real = 0, _library.library.pfs_rounds
 
     def refusing(*given: Any) -> int:
         nonlocal calls
@@ -196,48 +183,38 @@ def test_memory_that_runs_out_loses_nothing(cut: Callable[[list[int]], None],
         if calls == 4:
             monkeypatch.setattr(_search, "Solution", lambda *_: pytest.fail("a solution is made where memory is short"))
             return 1
-        return int(real.pfs_rounds(*given))
+        return int(real(*given))
 
-    monkeypatch.setattr(_library, "library", Library())
+    monkeypatch.setattr(_library.library, "pfs_rounds", refusing)
     with pytest.raises(MemoryError) as stop:
         shop.solve(50)
     assert getattr(stop.value, "solution", None) == whole
 
 
-# The rounds of the parts by the limit in rounds, of which each takes a 1,024th of a second: parts of a tenth of a
-# second, each at most four times as long as the one before it, and a last one that ends by the limit.
-LIMITS: dict[float, list[int]] = {
-    0: [], 0.5: [1], 20: [1, 4, 15], 100: [1, 4, 16, 64, 15], 354: [1, 4, 16, 64, 102, 102, 65],
-    392: [1, 4, 16, 64, 102, 102, 102, 1]}
+# The seconds of a round, the limit as a number of rounds, or None for 300 rounds without one, and the rounds of the
+# parts. They take a tenth of a second, and each has a round at least and four times those of the one before it at most.
+PARTS_OF: list[tuple[float, float | None, list[int]]] = [
+    (1 / 1024, 0, []), (1 / 1024, 0.5, [1]), (1 / 1024, 20, [1, 4, 15]), (1 / 1024, 100, [1, 4, 16, 64, 15]),
+    (1 / 1024, 354, [1, 4, 16, 64, 102, 102, 65]), (1 / 1024, 392, [1, 4, 16, 64, 102, 102, 102, 1]),
+    (1 / 1024, None, [1, 4, 16, 64, 102, 102, 11]), (2, None, [1] * 300), (1 / 32, None, [1, *[3] * 99, 2]),
+    (0, None, [1, 4, 16, 64, 215])]
 
 
-@pytest.mark.parametrize("limit", LIMITS)
-def test_parts_take_a_tenth_of_a_second_and_the_last_one_ends_by_the_limit(monkeypatch: pytest.MonkeyPatch,
-                                                                          limit: float) -> None:
-    clock = Clock(1 / 1024)
-    clock.patch(monkeypatch)
-    got: list[int] = []
-    shop = pfs.generate(6, 3, 1)
-    found = shop.solve(time_limit=limit / 1024, progress=lambda made, makespan: got.append(made))
-    assert clock.parts == LIMITS[limit], f"the parts within the time of {limit} rounds"
-    assert got == list(itertools.accumulate(LIMITS[limit])) and found.rounds == sum(LIMITS[limit])
-    # From the command line too.
-    clock.parts.clear()
-    ends: list[int] = []
-    search = _search.Search(shop, None, 0, None, 0, 0)
-    best, fault = _commands.searched(search, 1_000_000, limit / 1024, [],
-                                     lambda kept: ends.append(kept.rounds))
-    assert clock.parts == LIMITS[limit] and ends == [0, *got] and (best.rounds, fault) == (found.rounds, None)
-
-
-@pytest.mark.parametrize(("seconds", "due"), [(1 / 1024, [1, 4, 16, 64, 102, 102, 11]), (2, [1] * 300),
-                                             (1 / 32, [1, *[3] * 99, 2]), (0, [1, 4, 16, 64, 215])])
-def test_parts_without_a_limit(monkeypatch: pytest.MonkeyPatch, seconds: float, due: list[int]) -> None:
-    """A part has a round at least, and no more than are due."""
+@pytest.mark.parametrize(("seconds", "limit", "parts"), PARTS_OF)
+def test_parts_take_a_tenth_of_a_second_and_the_last_one_ends_by_the_limit(
+        monkeypatch: pytest.MonkeyPatch, seconds: float, limit: float | None, parts: list[int]) -> None:
+    """From the command line too."""
     clock = Clock(seconds)
     clock.patch(monkeypatch)
-    pfs.generate(6, 3, 1).solve(300)
-    assert clock.parts == due, f"the parts of 300 rounds, of {seconds} seconds each"
+    got: list[int] = []
+    ends: list[int] = []
+    shop, end, rounds = pfs.generate(6, 3, 1), limit and limit / 1024, 300 if limit is None else None
+    found = shop.solve(rounds, time_limit=end, progress=lambda made, makespan: got.append(made))
+    assert clock.parts == parts and found.rounds == sum(parts) and got == list(itertools.accumulate(parts))
+    clock.parts.clear()
+    search = _search.Search(shop, None, 0, None, 0, 0)
+    best, fault = _commands.searched(search, rounds or 1_000_000, end, [], lambda kept: ends.append(kept.rounds))
+    assert clock.parts == parts and ends == [0, *got] and (best.rounds, fault) == (found.rounds, None)
 
 
 TRACED = {str(pathlib.Path(pfs.__file__).with_name(f"_{name}.py"))
@@ -272,43 +249,21 @@ class Interrupting:
         return self.step
 
 
-def interrupted(shop: pfs.Instance, tracer: Interrupting, progress: Any) -> pfs.Solution:
-    """The solution that `solve` returns, or that its exception has."""
-    before = sys.gettrace()
-    sys.settrace(tracer)
-    try:
-        return shop.solve(ROUNDS, progress=progress)
-    except KeyboardInterrupt as stop:
-        assert isinstance(stop, pfs.Interrupted), f"interrupted at a bytecode, it is no pfs.Interrupted: {stop!r}"
-        return stop.solution
-    finally:
-        sys.settrace(before)
-
-
 ROUNDS, PARTS = 15, 3
 # More than such a search has.
 MOST_BYTECODES = 50_000
 
 
-@pytest.fixture
-def ends(cut: Callable[[list[int]], None]) -> dict[int, pfs.Solution]:
-    """The solution after each part."""
-    cut([ROUNDS // PARTS])
-    shop = pfs.generate(6, 2, 1)
-    found = {rounds: shop.solve(rounds) for rounds in range(0, ROUNDS + 1, ROUNDS // PARTS)}
-    for rounds, best in found.items():
-        rest = shop.solve(ROUNDS - rounds, start=best, first=best.rounds)
-        assert rest.to_text() == found[ROUNDS].to_text()
-    return found
-
-
 @pytest.mark.seconds(5)
 @pytest.mark.parametrize("first", range(PARTS + 1))
-def test_an_interruption_at_each_bytecode_loses_nothing(ends: dict[int, pfs.Solution], monkeypatch: pytest.MonkeyPatch,
-                                                        first: int) -> None:
+def test_an_interruption_at_each_bytecode_loses_nothing(cut: Callable[[list[int]], None],
+                                                        monkeypatch: pytest.MonkeyPatch, first: int) -> None:
     """Each part counts that the library has made, also before its result is used. After some parts, a first
     interruption comes from `progress`, and a second one at any bytecode after that."""
-    shop, real = pfs.generate(6, 2, 1), _library.library.pfs_rounds
+    cut([ROUNDS // PARTS])
+    shop, real, before = pfs.generate(6, 2, 1), _library.library.pfs_rounds, sys.gettrace()
+    # The solution after each part.
+    ends = {rounds: shop.solve(rounds) for rounds in range(0, ROUNDS + 1, ROUNDS // PARTS)}
     due, made = first * ROUNDS // PARTS or ROUNDS, list[int]()
 
     def noting(*given: Any) -> int:
@@ -326,7 +281,14 @@ def test_an_interruption_at_each_bytecode_loses_nothing(ends: dict[int, pfs.Solu
     for at in range(MOST_BYTECODES):
         made.clear()
         tracer = Interrupting(at, begins_at_once=not first)
-        best = interrupted(shop, tracer, Bar)
+        sys.settrace(tracer)
+        try:
+            best = shop.solve(ROUNDS, progress=Bar)
+        except KeyboardInterrupt as stop:
+            assert isinstance(stop, pfs.Interrupted), f"interrupted at a bytecode, it is no pfs.Interrupted: {stop!r}"
+            best = stop.solution
+        finally:
+            sys.settrace(before)
         assert best == ends[best.rounds], f"interrupted at bytecode {at}: not where so many rounds end"
         assert best.rounds == len(made) * ROUNDS // PARTS, f"interrupted at bytecode {at}: a part that was made is lost"
         if not tracer.has_come:
@@ -350,11 +312,9 @@ def test_a_second_interruption_of_a_search_keeps_its_best_order(monkeypatch: pyt
     ({"rounds": 1.5}, TypeError, "rounds must be an integer, not 1.5"),
     ({"take": 0}, ValueError, "take must be from 1 to 20, not 0"),
     ({"take": 21}, ValueError, "take must be from 1 to 20, not 21"),
-    ({"take": 2**64 + 1}, ValueError, "take must be from .*, not 18446744073709551617"),
     ({"passes": 101}, ValueError, "passes must be from 0 to 100, not 101"),
     ({"seed": -1}, ValueError, "seed must be from .*, not -1"),
     ({"seed": 2**64}, ValueError, "seed must be from .*, not 18446744073709551616"),
-    ({"seed": "1"}, TypeError, "seed must be an integer, not '1'"),
     ({"start": [0, 1]}, ValueError, "start has 2 jobs, but the instance has 20"),
     ({"start": [0] * 20}, ValueError, "start: job 0 occurs twice, at places 0 and 1"),
     ({"start": pfs.taillard(11).neh()}, ValueError, "start is an order for 10 machines, but the instance has 5$"),
@@ -364,7 +324,6 @@ def test_a_second_interruption_of_a_search_keeps_its_best_order(monkeypatch: pyt
     ({"time_limit": "1"}, TypeError, "time_limit must be a number of seconds, not '1'"),
     ({"progress": 3}, TypeError, "progress must be callable"),
     ({"target": -1}, ValueError, "target must be from 0 to [0-9,]+, not -1"),
-    ({"target": 1278.0}, TypeError, "target must be an integer, not 1278.0"),
     ({"stop": True}, TypeError, "stop must be an event with `is_set`, such as threading.Event, not True"),
     ({"history": 1}, TypeError, "history must be True or False, not 1"),
     ({"hold": [1, 1]}, ValueError, "hold: job 1 occurs twice, at places 0 and 1"),
@@ -381,7 +340,6 @@ def test_a_second_interruption_of_a_search_keeps_its_best_order(monkeypatch: pyt
     ({"method": "iterated-greedy", "ties": "last"}, ValueError, "ties must be 'first' or 'idle', not 'last'$"),
     ({"method": "iterated-greedy", "ties": 1}, TypeError, "ties must be 'first' or 'idle', not 1$"),
     ({"method": "iterated-greedy", "partial": 101}, ValueError, "partial must be from 0 to 100, not 101$"),
-    ({"method": "iterated-greedy", "passes": 101}, ValueError, "passes must be from 0 to 100, not 101$"),
     ({"method": "iterated-greedy", "temperature": -0.1}, ValueError, "temperature must be from 0 to 1,000, not -0.1$"),
     ({"method": "iterated-greedy", "temperature": 1000.1}, ValueError, "temperature must be from 0 to 1,000, not "),
     ({"method": "iterated-greedy", "temperature": float("nan")}, ValueError, "temperature must be .*, not nan$"),
@@ -428,11 +386,7 @@ def test_the_history_counts_rounds_from_the_first_and_is_kept(cut: Callable[[lis
     assert rest[0][::2] == (50, half.makespan)
     assert [line[::2] for line in half.history + rest[1:]] == [line[::2] for line in whole]
     assert shop.solve(100, start=range(20)).history == ()
-
-    def interrupt(made: int, makespan: int) -> None:
-        if made == 49:
-            raise KeyboardInterrupt
-
+    interrupt = mock.Mock(spec=[], side_effect=[None] * 6 + [KeyboardInterrupt])
     with pytest.raises(pfs.Interrupted) as stop:
         shop.solve(100, start=range(20), history=True, progress=interrupt)
     assert [line[::2] for line in stop.value.solution.history] == [line[::2] for line in whole if line.round <= 49]
@@ -510,47 +464,53 @@ def test_a_search_by_time_continues_with_another_seed(monkeypatch: pytest.Monkey
 LONGER: dict[str, Any] = {"method": "iterated-greedy"}
 
 
-def free_jobs(order: list[int], held: int, move: list[int] | None) -> list[int]:
-    """The jobs behind the held ones that may move."""
-    return [job for job in order[held:] if move is None or job in move]
-
-
 @given(case=plainly.shops_and_orders(5), counts=st.lists(st.integers(1, 5), min_size=1, max_size=3),
        rounds=st.integers(0, 8), seed=st.integers(0, 2**64 - 1), held=st.integers(0, 5), partial=st.integers(0, 2),
        passes=st.integers(0, 2), ties=st.sampled_from(["first", "idle"]), temperature=st.sampled_from([0, 0.5, 3, 40]),
-       moves=st.one_of(st.none(), st.sets(st.integers(0, 4))), chance=st.randoms(use_true_random=False))
+       moves=st.one_of(st.none(), st.sets(st.integers(0, 4))), is_longer=st.booleans(),
+       chance=st.randoms(use_true_random=False))
 @example(case=([[3, 3, 0], [2, 4, 3], [3, 2, 3], [2, 4, 1], [4, 1, 2]], [0, 1, 2, 3, 4]), counts=[7], rounds=8, seed=1,
-         held=0, partial=0, passes=1, ties="idle", temperature=0, moves=None, chance=random.Random(1))  # not as "first"
-def test_rounds_that_accept_longer_orders(
+         held=0, partial=0, passes=1, ties="idle", temperature=0, moves=None, is_longer=True,
+         chance=random.Random(1))  # not as "first"
+def test_rounds_that_accept_longer_orders_or_hold_jobs(
         cut: Callable[[list[int]], None], case: tuple[plainly.Table, list[int]], counts: list[int], rounds: int,
         seed: int, held: int, partial: int, passes: int, ties: str, temperature: float, moves: set[int] | None,
-        chance: Any) -> None:
-    """Both orders are those of the definition, however the rounds are cut into parts and calls."""
+        is_longer: bool, chance: Any) -> None:
+    """Both orders are those of the definition, however the rounds are cut into parts and calls. The held jobs keep the
+    first places, and those that don't move their order. With either, `solve` is the search without its options."""
     times, order = case
     jobs = len(times)
-    words: dict[str, Any] = {"partial": partial, "passes": passes, "ties": ties, "temperature": temperature,
-                             "take": chance.randint(1, jobs), "seed": seed}
     held, shop = min(held, jobs), pfs.Instance(times)
     hold, start = order[:held], chance.sample(order, jobs)
     begun = hold + [job for job in start if job not in hold]
     move = None if moves is None else [job for job in moves if job < jobs]
-    free = free_jobs(begun, held, move)
+    free = [job for job in begun[held:] if move is None or job in move]
+    more: dict[str, Any] = {"partial": 0, "ties": "first", "temperature": 0}
+    words: dict[str, Any] = {"passes": passes, "take": chance.randint(1, jobs), "seed": seed}
+    options: dict[str, Any] = words | {"hold": hold, "move": move}
+    if is_longer or not hold and move is None:
+        more = {"partial": partial, "ties": ties, "temperature": temperature}
+        options |= LONGER | more
     due = (begun, begun) if not free else plainly.iterated(
         times, (begun, begun), range(rounds), held=held, staying=set(order) - set(free),
-        **words | {"take": min(words["take"], len(free))})
+        **more | words | {"take": min(words["take"], len(free))})
     cut(counts)
-    words |= {**LONGER, "hold": hold, "move": move}
-    whole = shop.solve(rounds, start=start, **words)
+    whole = shop.solve(rounds, start=start, **options)
     assert whole.current is not None and (whole.current.tolist(), whole.order.tolist()) == due
     assert whole.makespan == plainly.makespan(times, due[1]) and whole.rounds == rounds
-    half = shop.solve(chance.randint(0, rounds), start=start, **words)
+    half = shop.solve(chance.randint(0, rounds), start=start, **options)
     half = pickle.loads(pickle.dumps(half))
-    rest = shop.solve(rounds - half.rounds, start=half, first=half.rounds, **words)
+    rest = shop.solve(rounds - half.rounds, start=half, first=half.rounds, **options)
     assert rest.current is not None and (rest.current.tolist(), rest.order.tolist()) == due
     target = whole.makespan
     first = next(count for count in range(rounds + 1)
-                 if shop.solve(count, start=start, **words).makespan <= target)
-    assert shop.solve(rounds, start=start, target=target, history=True, **words).rounds == first
+                 if shop.solve(count, start=start, **options).makespan <= target)
+    assert shop.solve(rounds, start=start, target=target, history=True, **options).rounds == first
+    own = pfs.Solution(order, shop.makespan(order))
+    own.current = np.array(order[::-1])
+    later: Any = shop.solve(3, **LONGER, start=own, move=move)
+    stay = [job for job in order if move is not None and job not in move]
+    assert [[job for job in each if job in stay] for each in (later.order, later.current)] == [stay] * 2
 
 
 def test_the_defaults_of_the_method() -> None:
@@ -579,65 +539,6 @@ def test_the_chances_of_longer_orders(temperature: float, total: int, operations
         due = 2**32 * math.exp(-longer / heat) if heat > 1e-300 else 0
         chance = chances[longer] if longer < len(chances) else 0
         assert abs(chance - math.floor(due)) <= 1e-6 * due + (abs(due - round(due)) < 1e-3), longer
-
-
-@pytest.mark.parametrize("hold", [[], [3, 1]])
-def test_a_search_that_accepts_longer_orders_loses_nothing(hold: list[int]) -> None:
-    """By Ctrl-C, and in threads."""
-    shop = pfs.generate(30, 8, 9)
-
-    def interrupt(rounds: int, makespan: int) -> None:
-        if rounds >= 5:
-            raise KeyboardInterrupt
-
-    whole = shop.solve(60, **LONGER, hold=hold)
-    with pytest.raises(pfs.Interrupted) as stop:
-        shop.solve(60, **LONGER, hold=hold, progress=interrupt)
-    half = stop.value.solution
-    assert 5 <= half.rounds < 60
-    rest = shop.solve(60 - half.rounds, **LONGER, hold=hold, start=half, first=half.rounds)
-    assert (rest.order.tolist(), rest.rounds, rest.seed) == (whole.order.tolist(), 60, 0)
-    if not hold:
-        assert pfs.solve_all([shop], [0], 60, **LONGER) == {(0, 0): whole}
-        found = {(0, 0): shop.solve(20, **LONGER)}
-        assert pfs.solve_all([shop], [0], 60, **LONGER, found=found) == {(0, 0): whole}
-    assert whole.makespan < shop.solve(0, hold=hold).makespan
-
-
-@st.composite
-def held_searches(draw: st.DrawFn) -> tuple[plainly.Table, list[int], list[int], list[int]]:
-    """Times, an order, jobs that are held, and jobs that move."""
-    times, order = draw(plainly.shops_and_orders())
-    jobs = st.lists(st.sampled_from(range(len(times))), unique=True)
-    return times, order, draw(jobs), draw(jobs)
-
-
-@given(held_searches(), st.integers(0, 2), st.integers(1, 6), st.integers(0, 2**64 - 1))
-def test_held_jobs_stay_where_they_are(case: tuple[plainly.Table, list[int], list[int], list[int]], passes: int,
-                                       take: int, seed: int) -> None:
-    """The first ones keep their places and those that don't move their order. The order is that of the definition."""
-    times, order, hold, move = case
-    shop = pfs.Instance(times)
-    words: dict[str, Any] = {"take": min(take, shop.jobs), "passes": passes, "seed": seed, "start": order}
-    start = [*hold, *(job for job in order if job not in hold)]
-    for moved in (move, None):
-        found = shop.solve(5, **words, hold=hold, move=moved)
-        jobs, free = found.order.tolist(), free_jobs(start, len(hold), moved)
-        stay = [job for job in start if job not in free]
-        assert jobs[:len(hold)] == hold and sorted(jobs) == list(range(shop.jobs))
-        assert found.makespan == plainly.makespan(times, jobs) <= plainly.makespan(times, start)
-        assert [job for job in jobs if job in stay] == stay
-        if free and (hold or moved is not None):
-            assert jobs == plainly.iterated(
-                times, (start, start), range(5), held=len(hold), take=min(words["take"], len(free)), partial=0,
-                passes=passes, ties="first", temperature=0, seed=seed, staying=stay)[1]
-        begun = shop.solve(0, **words, hold=hold, move=moved)
-        assert not hold and moved is None or begun.order.tolist() == start
-    own = pfs.Solution(order, shop.makespan(order))
-    own.current = np.array(order[::-1])
-    later: Any = shop.solve(3, method="iterated-greedy", start=own, move=move)
-    assert [[job for job in each if job not in move] for each in (later.order, later.current)] == [
-        [job for job in order if job not in move]] * 2
 
 
 @given(plainly.shops())

@@ -33,8 +33,10 @@ def makes(values: npt.ArrayLike, kind: str) -> list[npt.NDArray[Any]]:
 
 @pytest.mark.parametrize("kind", KINDS)
 def test_arrays_of_each_make(kind: str) -> None:
+    """What is validated is a copy, so nothing that another thread writes afterwards counts."""
     for times in makes(TIMES, kind):
         assert pfs.Instance(times).times.tolist() == TIMES
+        assert not np.shares_memory(_validate.array_copy(times, "times"), times)
     shop = pfs.Instance(TIMES)
     for order in makes([1, 0, 2], kind):
         assert shop.makespan(order) == plainly.makespan(TIMES, [1, 0, 2])
@@ -88,7 +90,6 @@ REJECTED: dict[Callable[[Any], object], list[tuple[Any, type[Exception], str]]] 
         ([[1, 2], [3, 2.5]], ValueError, "times: 2.5 at job 1, machine 1 isn't a whole number"),
         ([[1, float("inf")]], ValueError, "times: inf at job 0, machine 1 isn't a whole number"),
         (np.array([[-1]], dtype=np.int8), ValueError, "times: -1 at job 0, machine 0 isn't from 0 to"),
-        ([[1, 2], [-3, 2]], ValueError, "times: -3 at job 1, machine 0 isn't from 0 to 1,000,000,000"),
         ([[1, 1_000_000_001]], ValueError, "times: 1000000001 at job 0, machine 1 isn't from 0 to 1,000,000,000"),
         ([[1, 2**70]], ValueError, "times: 1180591620717411303424 at job 0, machine 1 isn't from 0 to"),
         ([[1, None]], TypeError, "times: None at job 0, machine 1 isn't a whole number"),
@@ -290,30 +291,6 @@ def test_anything_as_an_order(order: Any) -> None:
             pass
 
 
-@given(st.binary(max_size=300) | st.text(alphabet="0123456789 \n", max_size=60).map(str.encode)
-       | st.text(alphabet="order2 13\nmakespn", max_size=60).map(str.encode))
-def test_anything_as_a_file(text: bytes) -> None:
-    for layout in ("taillard", "orlib"):
-        for block in (1, 2):
-            try:
-                assert pfs.read(io.BytesIO(text), layout, block).jobs >= 1
-            except pfs.FileFault as fault:
-                assert 0 <= fault.place <= len(text) + 1
-    try:
-        pfs.read_order(io.BytesIO(text))
-    except pfs.OrderFault as fault:
-        assert 0 <= fault.place <= len(text)
-
-
-@pytest.mark.parametrize("kind", KINDS)
-def test_what_is_validated_is_a_copy(kind: str) -> None:
-    """So nothing that another thread writes afterwards counts."""
-    for times in makes(TIMES, kind):
-        own = _validate.array_copy(times, "times")
-        assert not np.shares_memory(own, times), f"times of the kind {kind} are validated in the caller's memory"
-        assert own.tolist() == TIMES
-
-
 @pytest.mark.parametrize("kind", [np.uint32, np.int64])
 @pytest.mark.parametrize("jobs", [3, 300])
 def test_an_order_that_changes_while_it_is_used_is_validated_as_a_copy(monkeypatch: pytest.MonkeyPatch, jobs: int,
@@ -345,22 +322,19 @@ def test_an_order_that_changes_while_it_is_used_is_validated_as_a_copy(monkeypat
         word for word in words if isinstance(word, int))], "the library reads the caller's memory"
 
 
-def call_everywhere(shop: pfs.Instance) -> dict[str, Callable[[], Any]]:
-    """A call of each function of the library."""
-    return {
-        "pfs_prepare": lambda: pfs.Instance(TIMES).bound(), "pfs_makespan": lambda: shop.makespan([0, 1, 2]),
-        "pfs_bound": shop.bound, "pfs_neh": shop.neh,
-        "pfs_table": lambda: shop.schedule([0, 1, 2]), "pfs_rounds": lambda: shop.solve(1, start=[0, 1, 2]),
-        "pfs_insert_ties": lambda: shop.best_place([0, 1], 2, ties="idle"),
-        "pfs_construct_ties": lambda: shop.insert_all([0], [1], ties="idle"),
-        "pfs_local_search_ties": lambda: shop.local_search([0, 1], ties="idle"),
-        "pfs_insert": lambda: shop.best_place([0, 1], 2), "pfs_generate": lambda: pfs.generate(2, 2, 1),
-        "pfs_read": lambda: pfs.read(io.BytesIO(b"1 1 0 0 0\n1\n"), "taillard"), "pfs_write": shop.to_text,
-        "pfs_insertions": lambda: shop.places([0, 1], 2), "pfs_makespans": lambda: shop.makespans([[0, 1, 2]]),
-        "pfs_read_order": lambda: pfs.read_order(io.BytesIO(b"order 1\n1\nmakespan 1\n")),
-        "pfs_write_order": lambda: pfs.Solution([0], 1).to_text()}
-
-
+# A call of each function of the library.
+CALLS: dict[str, Callable[[], Any]] = {
+    "pfs_prepare": lambda: pfs.Instance(TIMES).bound(), "pfs_makespan": lambda: SHOP.makespan([0, 1, 2]),
+    "pfs_bound": SHOP.bound, "pfs_neh": SHOP.neh,
+    "pfs_table": lambda: SHOP.schedule([0, 1, 2]), "pfs_rounds": lambda: SHOP.solve(1, start=[0, 1, 2]),
+    "pfs_insert_ties": lambda: SHOP.best_place([0, 1], 2, ties="idle"),
+    "pfs_construct_ties": lambda: SHOP.insert_all([0], [1], ties="idle"),
+    "pfs_local_search_ties": lambda: SHOP.local_search([0, 1], ties="idle"),
+    "pfs_insert": lambda: SHOP.best_place([0, 1], 2), "pfs_generate": lambda: pfs.generate(2, 2, 1),
+    "pfs_read": lambda: pfs.read(io.BytesIO(b"1 1 0 0 0\n1\n"), "taillard"), "pfs_write": SHOP.to_text,
+    "pfs_insertions": lambda: SHOP.places([0, 1], 2), "pfs_makespans": lambda: SHOP.makespans([[0, 1, 2]]),
+    "pfs_read_order": lambda: pfs.read_order(io.BytesIO(b"order 1\n1\nmakespan 1\n")),
+    "pfs_write_order": lambda: pfs.Solution([0], 1).to_text()}
 # Nothing of the package calls these.
 UNCALLED = {"pfs_release", "pfs_construct", "pfs_heads_tails", "pfs_iterate", "pfs_local_search", "pfs_prove",
             "pfs_random", "pfs_sizes", "pfs_faulty_job"}
@@ -374,10 +348,9 @@ CALLED = [name for name in _library.PROTOTYPES if name not in UNCALLED]
 def test_other_numbers_of_the_library_are_reported(monkeypatch: pytest.MonkeyPatch, name: str, number: int,
                                                    kind: type[Exception], why: str) -> None:
     """Memory that runs out, and by its text a fault that no argument explains."""
-    call = call_everywhere(pfs.Instance(TIMES))[name]
-    assert call() is not None
+    assert CALLS[name]() is not None
     monkeypatch.setattr(_library.library, name, lambda *_: number)
     for each in QUICK:
         monkeypatch.setattr(_instance, each, lambda *_: number)
     with pytest.raises(kind, match=f"^{why}$"):
-        call()
+        CALLS[name]()

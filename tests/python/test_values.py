@@ -27,16 +27,12 @@ def test_makespan_and_insertions(case: tuple[plainly.Table, list[int]]) -> None:
     shop = pfs.Instance(times)
     assert shop.makespan(sequence) == plainly.makespan(times, sequence)
     for job in set(range(len(times))) - set(sequence):
-        spans = shop.places(sequence, job)
-        due = [plainly.makespan(times, [*sequence[:at], job, *sequence[at:]]) for at in range(len(sequence) + 1)]
-        assert spans.tolist() == due and spans.dtype == np.int64
+        rows = [[*sequence[:at], job, *sequence[at:]] for at in range(len(sequence) + 1)]
+        due = [plainly.makespan(times, row) for row in rows]
+        for spans in (shop.places(sequence, job), shop.makespans(rows)):
+            assert spans.tolist() == due and spans.dtype == np.int64
         assert shop.best_place(sequence, job) == plainly.best_place(times, sequence, job)
-
-
-def test_all_places_in_a_long_sequence() -> None:
-    """On one machine all orders take equally long."""
-    shop = pfs.generate(300, 1, 1)
-    assert shop.places(range(1, 300), 0).tolist() == [int(shop.times.sum())] * 300
+    assert shop.makespans([[], []]).tolist() == [0, 0] and shop.makespans(np.zeros((0, 1))).tolist() == []
 
 
 @pytest.mark.quick
@@ -49,14 +45,6 @@ def test_bounds_and_neh(times: plainly.Table) -> None:
     assert shop.bound("pairs") == max([plainly.bound(times), *pairs]) <= plainly.shortest(times)
     order, cells = plainly.neh(times), 2 * len(machines) * len(times)**2
     assert shop.neh() == pfs.Solution(order, plainly.makespan(times, order), cells, len(machines))
-
-
-@given(plainly.shops(), st.data())
-def test_makespans(times: plainly.Table, data: st.DataObject) -> None:
-    length = data.draw(st.integers(0, len(times)))
-    rows = data.draw(st.lists(st.permutations(range(len(times))).map(lambda order: order[:length]), max_size=5))
-    spans = pfs.Instance(times).makespans(np.array(rows, dtype=np.int64).reshape(len(rows), length))
-    assert spans.tolist() == [plainly.makespan(times, row) for row in rows] and spans.dtype == np.int64
 
 
 @given(plainly.shops_and_orders())
@@ -134,6 +122,8 @@ def test_the_greatest_shops() -> None:
     found = shop.insert_all(range(2500), range(2500, 5000))
     assert sorted(found.jobs.tolist()) == [*range(5000)] and found.makespan == shop.makespan(found.jobs)
     assert shop.heads(range(5000))[-1, -1] == found.makespan
+    # On one machine all orders take equally long.
+    assert shop.places(range(1, 5000), 0).tolist() == [found.makespan] * 5000
 
 
 def test_rpd() -> None:
@@ -210,15 +200,6 @@ def test_each_parameter_is_compared(kind: type[Any]) -> None:
         assert not one == other and one != other, f"two of another {name} are equal"
 
 
-def things() -> list[Any]:
-    """What is copied, with a value in each attribute."""
-    return [
-        *map(made_of, COMPARED), pfs.taillard(1).solve(200, history=True), made_of(pfs.Instance).schedule([1, 0]),
-        pfs.FileFault("file", 24, 17, 3, 2, "a hint"), pfs.OrderFault("order", 31, 3),
-        pfs.TableFault("plan.csv", 4, 2, "no time", "saw", (pfs.TableFault("plan.csv", 5, 2, "none"),)),
-        pfs.Interrupted(pfs.Solution([1, 0], 9, 16, 2, 5)), pfs.InterruptedAll({(0, 1): pfs.Solution([0], 1)})]
-
-
 def kept_by(thing: Any) -> dict[str, Any]:
     """Each attribute, as a list, a text or a number."""
     names = [name for name in getattr(thing, "__slots__", None) or vars(thing) if name[0] != "_"]
@@ -230,7 +211,12 @@ def kept_by(thing: Any) -> dict[str, Any]:
 @pytest.mark.parametrize("protocol", [*range(pickle.HIGHEST_PROTOCOL + 1), None])
 def test_a_copy_has_each_attribute(protocol: int | None) -> None:
     """Pickled by a protocol, or copied."""
-    for one in things():
+    things: list[Any] = [
+        *map(made_of, COMPARED), pfs.taillard(1).solve(200, history=True), made_of(pfs.Instance).schedule([1, 0]),
+        pfs.FileFault("file", 24, 17, 3, 2, "a hint"), pfs.OrderFault("order", 31, 3),
+        pfs.TableFault("plan.csv", 4, 2, "no time", "saw", (pfs.TableFault("plan.csv", 5, 2, "none"),)),
+        pfs.Interrupted(pfs.Solution([1, 0], 9, 16, 2, 5)), pfs.InterruptedAll({(0, 1): pfs.Solution([0], 1)})]
+    for one in things:
         if isinstance(one, pfs.Schedule) and protocol in (0, 1):
             continue
         other = copy.copy(one) if protocol is None else pickle.loads(pickle.dumps(one, protocol))
@@ -297,55 +283,36 @@ def test_jobs_by_their_names() -> None:
 
 # Building blocks of search methods: heads and tails, construction and local search
 
-def moved(times: plainly.Table, sequence: list[int], jobs: list[int]) -> list[int]:
-    """The sequence after each of these jobs was inserted at its best place. A job of the sequence is removed before."""
-    for job in jobs:
-        sequence = [other for other in sequence if other != job]
-        sequence.insert(plainly.best_place(times, sequence, job)[0], job)
-    return sequence
-
-
-@given(st.data(), plainly.shops_and_sequences(), st.integers(0, 3))
-def test_building_blocks(data: st.DataObject, case: tuple[plainly.Table, list[int]], passes: int) -> None:
-    """Heads are the ends of the schedule, and tails those of the reversed one."""
+@given(st.data(), plainly.shops_and_sequences(), st.integers(0, 3), st.sampled_from([None, "first", "idle"]))
+def test_building_blocks(data: st.DataObject, case: tuple[plainly.Table, list[int]], passes: int,
+                         ties: str | None) -> None:
+    """Heads are the ends of the schedule, and tails those of the reversed one. A pass is an improvement of at most one
+    pass; without a number of passes there are up to 100. Without a rule for ties the first place is the best."""
     times, sequence = case
-    shop = pfs.Instance(times)
+    shop, plain, rule = pfs.Instance(times), second_program.instance_of(times), int(ties == "idle")
+    words: dict[str, Any] = {"ties": ties} if ties else {}
     ends = [[end for _, end in row] for row in plainly.schedule(times, sequence)]
     heads = shop.heads(sequence)
     assert heads.tolist() == ends and heads.shape == (len(sequence), len(times[0])) and heads.dtype == np.int64
     backwards = plainly.schedule([row[::-1] for row in times], sequence[::-1])
     assert shop.tails(sequence).tolist() == [[end for _, end in row][::-1] for row in backwards][::-1]
-    jobs, more = (data.draw(st.permutations(each))[:data.draw(st.integers(0, len(each)))]
-                  for each in (sequence, sorted({*range(shop.jobs)} - {*sequence})))
-    calls: list[tuple[pfs.Sequence, list[int]]] = [
-        (shop.insert_all(sequence, more), more), (shop.local_search(sequence, jobs, passes=passes), jobs * passes),
-        (shop.local_search(sequence, passes=passes), sorted(sequence) * passes)]
-    for found, inserted in calls:
-        due = moved(times, sequence, inserted)
-        assert (found.jobs.tolist(), found.makespan) == (due, plainly.makespan(times, due))
-
-
-@given(st.data(), plainly.shops_and_sequences(), st.integers(0, 3), st.sampled_from(["first", "idle"]))
-def test_building_blocks_by_a_rule_for_ties(data: st.DataObject, case: tuple[plainly.Table, list[int]], passes: int,
-                                            ties: str) -> None:
-    """A pass is an improvement of at most one pass; without a number of passes there are up to 100."""
-    times, sequence = case
-    shop, plain, rule = pfs.Instance(times), second_program.instance_of(times), int(ties == "idle")
-    more = data.draw(st.permutations(sorted({*range(shop.jobs)} - {*sequence})))
+    more = data.draw(st.permutations(sorted({*range(shop.jobs)} - {*sequence})))[:data.draw(st.integers(0, 6))]
     due = sequence
     for job in more:
-        best = shop.best_place(due, job, ties=ties)
+        best = shop.best_place(due, job, **words)
         due = second_library.placed(plain, due, 0, job, rule)
         assert best == (due.index(job), plainly.makespan(times, due))
-    order, makespan = shop.insert_all(sequence, more, ties=ties)
+    order, makespan = shop.insert_all(sequence, more, **words)
     assert (order.tolist(), makespan) == (due, plainly.makespan(times, due))
-    jobs = data.draw(st.permutations(due))
-    once = due
-    for _ in range(passes):
-        once = second_library.improved(plain, once, 0, jobs, 1, rule)
-    for count, found in ((passes, once), (None, second_library.improved(plain, due, 0, jobs, 100, rule))):
-        got = shop.local_search(due, jobs, passes=count, ties=ties)
-        assert (got.jobs.tolist(), got.makespan) == (found, plainly.makespan(times, found))
+    some = data.draw(st.permutations(due))[:data.draw(st.integers(0, len(due)))]
+    calls: list[tuple[list[int], dict[str, Any]]] = [(some, {"jobs": some}), (sorted(due), {})]
+    for jobs, more_words in calls:
+        once = due
+        for _ in range(passes):
+            once = second_library.improved(plain, once, 0, jobs, 1, rule)
+        for count, found in ((passes, once), (None, second_library.improved(plain, due, 0, jobs, 100, rule))):
+            got = shop.local_search(due, passes=count, **more_words, **words)
+            assert (got.jobs.tolist(), got.makespan) == (found, plainly.makespan(times, found))
 
 
 def test_a_number_of_passes_is_made_in_full() -> None:

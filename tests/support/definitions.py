@@ -69,15 +69,6 @@ def all_definitions(crates: pathlib.Path) -> dict[Definition, set[Definition]]:
 
 # Contracts of public functions
 
-def exported(crate: pathlib.Path) -> tuple[set[str], set[str]]:
-    """The public modules of a crate, and the names that it re-exports from others."""
-    text = (crate / "src" / "lib.rt").read_text()
-    names = set()
-    for last in re.findall(r"^pub use [\w:]*::(\{[^}]*\}|\w+);", text, re.MULTILINE):
-        names.update(WORD.findall(last))
-    return set(re.findall(r"^pub mod (\w+);", text, re.MULTILINE)), names
-
-
 def public_parts(path: pathlib.Path, whole: bool, names: set[str]) -> list[str]:
     """The parts of a file that users see: public functions, types and traits, and what is implemented of them."""
     parts = re.split(r"^(?=(?:pub |unsafe |extern \S+ )*(?:fn|impl|trait|struct|enum|const|mod|use|ghost use)\b)",
@@ -113,7 +104,10 @@ def cited(crates: pathlib.Path) -> set[Definition]:
     for crate in sorted(crates.iterdir()):
         if not (crate / "src" / "lib.rt").exists() or crate.name in OF_TESTS:
             continue
-        modules, names = exported(crate)
+        # The public modules, and the names that are re-exported from others.
+        text = (crate / "src" / "lib.rt").read_text()
+        modules = re.findall(r"^pub mod (\w+);", text, re.MULTILINE)
+        names = set(WORD.findall(" ".join(re.findall(r"^pub use [\w:]*::(\{[^}]*\}|\w+);", text, re.MULTILINE))))
         for path in crate.glob("src/**/*.rt"):
             whole = path.relative_to(crate / "src").with_suffix("").parts[0] in modules
             imports = imports_of(path.read_text())

@@ -9,7 +9,6 @@ from contextlib import contextmanager, suppress
 from typing import IO, Any, NamedTuple
 
 import pytest
-from support.library import Library
 from support.needs import tool
 from support.program import Program
 from support.tools import Done, csv_rows, run_tool, with_path, write_script
@@ -50,7 +49,8 @@ class Experiment(NamedTuple):
         return self
 
     def words(self, name: str, *words: str, program: pathlib.Path | None = None) -> list[str | pathlib.Path]:
-        return [self.scripts / "pfs-experiments", name, "--pfs", program or self.pfs.path, *words]
+        given = ["--pfs", str(program or self.pfs.path)] if name in ("run", "slurm", "check", "taillard") else []
+        return [self.scripts / "pfs-experiments", name, *given, *words]
 
     def script(self, name: str, *words: str, program: pathlib.Path | None = None, **how: Any) -> Done:
         """Runs a command of pfs-experiments."""
@@ -163,12 +163,6 @@ def experiment(scripts: pathlib.Path, pfs: Program, folder: pathlib.Path) -> Exp
     for name, size in SHOPS.items():
         (folder / "shops" / name).write_text(made.printed("generate", *map(str, size)))
     return made.plan(PLAN)
-
-
-@pytest.fixture
-def with_library(libpfs: Library) -> dict[str, str]:
-    """The variables with which searches by time and audits find the library."""
-    return dict(os.environ, PFS_LIBRARY=str(libpfs.path))
 
 
 @pytest.fixture
