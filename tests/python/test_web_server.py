@@ -1,5 +1,4 @@
 """The program pfs-web: its command line, its limits as a server, its end, and its use with a proxy."""
-import base64
 import contextlib
 import http.client
 import json
@@ -8,33 +7,22 @@ import re
 import shutil
 import signal
 import socket
-import statistics
 import subprocess
 import sys
-import threading
 import time
 from collections.abc import Iterator
 from typing import Any
 from unittest import mock
 
-import pfs
 import pytest
-from support.needs import require_module, tool
+from pfs.web import __main__ as web
+from support.needs import tool
 from support.plainly import environment
 from support.servers import answers, free_port
 from support.tools import TOP, output_of, run_tool, stop, wait_until
-
-for module in ("flask", "waitress"):
-    require_module(module)
-from pfs.web import __main__ as web
+from test_web import LONG, PLAN, TOKEN
 
 COMMAND = [sys.executable, "-m", "pfs.web"]
-TOKEN = "A-token_of_24_characters"
-TABLE = "job [h];saw;drill\ntable;3;2\nchair;2;5\n"
-TIMES = pfs.generate(30, 20, 7).times.tolist()
-SHOP: dict[str, Any] = {"jobs": [f"J{job}" for job in range(30)], "machines": [f"M{each}" for each in range(20)],
-                        "unit": "min", "times": TIMES}
-LONG: dict[str, Any] = {"shop": SHOP, "seconds": 600}
 
 
 class Server:
@@ -116,15 +104,6 @@ def test_a_port_that_is_taken_and_a_missing_file_are_reported(server: Server, tm
         assert done.status == 4 and said in done.stderr and done.stderr.count("\n") == 1
 
 
-def test_the_address_has_a_new_token_unless_there_is_a_file(server: Server, token_file: pathlib.Path) -> None:
-    assert re.fullmatch(rf"http://127\.0\.0\.1:{server.port}/#[\w-]{{32}}\n", server.printed)
-    with served("--token-file", str(token_file)) as other:
-        assert TOKEN not in other.printed and str(token_file) in other.printed
-        assert other.answer("/api/read", {"rows": []})["faults"]
-        own, other.token = other.token, server.token
-        assert other.ask("/api/read", {"rows": []})[0] == 403 and own == TOKEN
-
-
 @pytest.mark.parametrize(("words", "screen", "is_opened"), [
     ([], "DISPLAY", True), ([], "WAYLAND_DISPLAY", True), ([], "", False), (["--no-browser"], "DISPLAY", False),
     (["--token-file", "token"], "DISPLAY", False)])
@@ -178,50 +157,6 @@ def test_requests_that_are_half_sent_stop_nobody(server: Server) -> None:
         assert time.monotonic() - begun < 8
 
 
-@pytest.mark.seconds(25)
-@pytest.mark.xdist_group("load")
-def test_eight_planners_share_two_slots(server: Server, tmp_path: pathlib.Path) -> None:
-    """Each searches for 2 s, asks all the while, and gets a response within 200 ms, and what a server that does nothing
-    else takes on this machine, which may be busy. All have an order in the end."""
-    seconds, delays, bare, orders = 2, list[float](), list[float](), list[list[str]]()
-
-    def timed(asked: Server, path: str, times: list[float]) -> Any:
-        begun = time.monotonic()
-        status, found = asked.ask(path)
-        times.append(time.monotonic() - begun)
-        assert status == 200
-        return found
-
-    def plan(other: Server) -> None:
-        name = server.answer("/api/search", {**LONG, "seconds": seconds})["search"]
-        told: dict[str, Any] = {}
-        while told.get("state") != "done":
-            told = timed(server, f"/api/search/{name}", delays)
-            timed(other, "/", bare)
-            time.sleep(0.1)
-        orders.append(told["order"])
-
-    port = free_port()
-    process = subprocess.Popen([sys.executable, "-m", "http.server", str(port), "--bind", "127.0.0.1"], cwd=tmp_path,
-                               stdout=subprocess.DEVNULL, stderr=subprocess.DEVNULL, text=True)
-    try:
-        wait_until(lambda: answers(port), "the bare server answers")
-        threads = [threading.Thread(target=plan, args=(Server(process, port, ""),)) for _ in range(8)]
-        begun = time.monotonic()
-        for each in threads:
-            each.start()
-        for each in threads:
-            each.join()
-        took = time.monotonic() - begun
-    finally:
-        stop(process)
-    assert [sorted(order) for order in orders] == [sorted(SHOP["jobs"])] * 8
-    # A proof takes another second. The machine may do other things.
-    assert 4 * seconds <= took < 4 * (seconds + 1) + 12, "two at a time"
-    assert statistics.median(delays) < 0.05 + 2 * statistics.median(bare)
-    assert max(delays) < 0.2 + 2 * max(bare)
-
-
 # Its end
 
 @pytest.mark.parametrize("number", [signal.SIGTERM, signal.SIGINT])
@@ -235,16 +170,15 @@ def test_a_signal_ends_it_and_its_searches_within_a_second(number: signal.Signal
 
 
 def test_after_it_was_killed_a_new_one_answers_the_same_page(token_file: pathlib.Path) -> None:
-    """The document is in the browser: its table and order are asked again, and the search is over."""
+    """The document is in the browser: its plan is asked again, and the search is over."""
     words, port = ("--token-file", str(token_file)), free_port()
     with served(*words, port=port) as first:
-        shop = first.answer("/api/read", {"content": base64.b64encode(TABLE.encode()).decode()})["shop"]
         name = first.answer("/api/search", LONG)["search"]
         first.process.kill()
         first.process.wait()
     with served(*words, port=port) as second:
         assert second.ask(f"/api/search/{name}")[0] == 404
-        assert second.answer("/api/plan", {"shop": shop, "order": ["chair", "table"]})["makespan"] == "9 h"
+        assert second.answer("/api/plan", PLAN)["makespan"] == "15.5 h"
 
 
 # With a proxy
