@@ -23,6 +23,7 @@ from support.large import run_limited
 from support.lines import TIME_TABLE
 from support.needs import tool
 from support.program import Program
+from support.second_program import instance_of
 from support.tools import TOP, Done, run_main, run_tool, with_path
 
 PAGE, MANUAL = (TOP / "docs" / "COOKBOOK.md").read_text(), (TOP / "python" / "pfs-gantt.1").read_text()
@@ -30,14 +31,9 @@ THREE = TIME_TABLE.decode()
 IDLE = "#d9d9d9"
 # The sizes of the letters on bars, and how wide a digit is in these sizes.
 LETTERS, SMALL, DIGIT = 8, 7, 0.636
-BEGINNINGS = {"svg": b"<?xml", "png": b"\x89PNG\r\n", "pdf": b"%PDF-"}
-
-# Start and end of each operation, by place in the order and by machine.
-Schedule = list[list[tuple[int, int]]]
 
 BAD = {
     "another line after it": THREE + "makespan 10\n",
-    "carriage returns": THREE.replace("\n", "\r\n"),
     "two blanks": THREE.replace(" 9 10", "  9 10"),
     "no number of machines": THREE.replace("table 3 2", "table 3"),
     "a job more in the first line": THREE.replace("table 3 2", "table 4 2"),
@@ -48,7 +44,6 @@ BAD = {
     "a start that waits for nothing": THREE.replace("1 2 5 7 9", "1 3 5 7 9"),
     "an end before its start": THREE.replace("1 2 5 7 9", "1 2 5 7 6"),
     "a digit of another script": THREE.replace("1 2 5 7 9", "1 2 5 7 \u0669"),
-    "not a number": THREE.replace("1 2 5 7 9", "1 2 5 7 nan"),
     "another makespan": THREE.replace("makespan 10", "makespan 11"),
     **{f"its first {end} bytes": THREE[:end] for end in range(len(THREE))},
 }
@@ -114,13 +109,6 @@ class Picture:
         (left, _), (right, _) = self.axis.transData.transform([(0, 0), (time, 0)])
         return float(right - left) * 72 / float(self.figure.dpi)
 
-    def texts(self) -> list[Any]:
-        """All texts that are seen."""
-        ticks = [label for axis in (self.axis, *self.axis.child_axes) for label in
-                 (*axis.get_xticklabels(), *axis.get_yticklabels())]
-        labels = (self.axis.title, self.axis.xaxis.label, self.axis.yaxis.label)
-        return [text for text in (*self.axis.texts, *ticks, *labels) if text.get_text() and text.get_visible()]
-
 
 def drawn(folder: pathlib.Path, *words: str, text: str = THREE, said: str = "") -> Picture:
     """What is drawn with these words, and a message."""
@@ -138,36 +126,28 @@ def drawn(folder: pathlib.Path, *words: str, text: str = THREE, said: str = "") 
 # Schedules
 
 class Case(NamedTuple):
-    """What is drawn, and with which options."""
+    """What is drawn: an order of the jobs of a shop, counted from 1, with these options."""
     name: str
+    shop: second_program.Instance
     order: list[int]
-    schedule: Schedule
     options: tuple[str, ...] = ("--critical",)
 
     @property
     def makespan(self) -> int:
-        return self.schedule[-1][-1][1]
+        return second_program.makespan(self.shop, [job - 1 for job in self.order])
 
     def operations(self, machine: int) -> list[tuple[int, int, int]]:
         """Job, start and end of each operation on a machine that takes time."""
-        return [(job, start, end) for job, row in zip(self.order, self.schedule) for start, end in [row[machine]]
-                if start < end]
+        spans = second_program.spans_of(self.shop, [job - 1 for job in self.order])
+        return [(job, *row[machine]) for job, row in zip(self.order, spans) if row[machine][0] < row[machine][1]]
 
     def machines(self) -> range:
-        return range(len(self.schedule[0]))
+        return range(self.shop.machines)
 
     def drawn(self, folder: pathlib.Path, *words: str, said: str = "") -> Picture:
         """The picture of what pfs prints of it, with more words."""
-        lines = [f"table {len(self.order)} {len(self.schedule[0])}"]
-        lines += [f"{job} " + " ".join(f"{start} {end}" for start, end in row)
-                  for job, row in zip(self.order, self.schedule)]
-        text = "\n".join([*lines, f"makespan {self.makespan}"]) + "\n"
-        return drawn(folder, *self.options, *words, text=text, said=said)
-
-
-def schedule_of(times: list[list[int]]) -> Schedule:
-    """Start and end of each operation, jobs in their order."""
-    return second_program.spans_of(second_program.instance_of(times), range(len(times)))
+        text, _ = second_program.tabled(self.shop, self.order, None)
+        return drawn(folder, *self.options, *words, text=text.decode(), said=said)
 
 
 def at_random(number: int) -> Case:
@@ -175,19 +155,18 @@ def at_random(number: int) -> Case:
     jobs, machines, most = draws.randint(1, 12), draws.randint(1, 6), draws.choice([1, 3, 99, 1_000_000])
     times = [[draws.randint(0, most) for _ in range(machines)] for _ in range(jobs)]
     times[-1][-1] += not any(map(any, times))
-    order = draws.sample(range(1, jobs + 1), jobs)
-    return Case(f"random {number}, {jobs} by {machines}", order, schedule_of(times))
+    return Case(f"random {number}, {jobs} by {machines}", instance_of(times), draws.sample(range(1, jobs + 1), jobs))
 
 
 def by_taillard(jobs: int, machines: int, seed: int, *options: str) -> Case:
-    times = [list(job) for job in zip(*second_program.generated(jobs, machines, seed).times)]
-    return Case(f"{jobs} by {machines} {' '.join(options)}", [*range(jobs, 0, -1)], schedule_of(times[::-1]), options)
+    shop = second_program.generated(jobs, machines, seed)
+    return Case(f"{jobs} by {machines} {' '.join(options)}", shop, [*range(jobs, 0, -1)], options)
 
 
 PAPER = by_taillard(20, 5, 873654221, "--critical", "--bound", "1232", "--width", "3.5", "--unit", "s")
 CASES = [
-    Case("nothing takes time, 1 by 1", [1], schedule_of([[0]])),
-    Case("nothing takes time, 2 by 2", [1, 2], schedule_of([[0, 0], [0, 0]])),
+    Case("nothing takes time, 1 by 1", instance_of([[0]]), [1]),
+    Case("nothing takes time, 2 by 2", instance_of([[0, 0], [0, 0]]), [1, 2]),
     *map(at_random, range(8)), by_taillard(20, 5, 873654221, "--critical"), PAPER,
     by_taillard(500, 20, 5, "--critical")]
 
@@ -244,7 +223,7 @@ LEAST, LEAST_OF_SOME, OF_NEIGHBOURS = float(COLOURS[2]), float(COLOURS[4]), floa
 
 def fills_of(jobs: int, folder: pathlib.Path, step: int = 1) -> list[str]:
     """The colours of jobs that take one unit on a machine, in their order."""
-    case = Case("", [*range(1, jobs + 1)][::step], schedule_of([[1]] * jobs), ())
+    case = Case("", instance_of([[1]] * jobs), [*range(1, jobs + 1)][::step], ())
     return [bar.fill for bar in case.drawn(folder).bars("machine-1")]
 
 
@@ -289,7 +268,7 @@ def test_letters_have_a_contrast(fill: tuple[int, int, int]) -> None:
 @pytest.mark.parametrize("width", ["12", "50"])
 def test_the_outline_of_the_path_leaves_an_operation_of_one_unit_to_be_seen(width: str, folder: pathlib.Path) -> None:
     """Half of its line lies on the first and on the last operation that it surrounds, each a unit long here."""
-    case = Case("", [1, 2], schedule_of([[1, 300], [2, 1]]))
+    case = Case("", instance_of([[1, 300], [2, 1]]), [1, 2])
     picture = case.drawn(folder, "--width", width)
     for machine in case.machines():
         line, = picture.groups[f"critical-{machine + 1}"].get_linewidths()
@@ -326,10 +305,12 @@ def test_numbers_are_in_the_middle_of_bars_and_at_the_scales(case: Case, picture
 # Axes
 
 def test_what_is_drawn_is_named_in_letters_that_can_be_read(folder: pathlib.Path) -> None:
-    """The title is above the rows, and names the bound and the path where they are drawn."""
-    plain, whole = drawn(folder), drawn(folder, "--critical", "--bound", "9", "--unit", "min")
+    """The title is above the rows, and names the bound and the path where they are drawn, or it is the one given."""
+    plain, whole = drawn(folder), drawn(folder, "--critical", "--bound", "10", "--unit", "min")
     title = "3 jobs on 2 machines: makespan 10"
-    assert (plain.title, whole.title) == (title, title + ", bound 9 (dashed), critical path outlined")
+    assert (plain.title, whole.title) == (title, title + ", bound 10 (dashed), critical path outlined")
+    assert [drawn(folder, *words).title for words in (["--no-title"], ["--title", ""], ["--title", "jobs of $48$"])] \
+        == ["", "", "jobs of $48$"]
     marks = {"bound", "beside-bound", "critical-1", "critical-2"}
     assert marks & plain.groups.keys() == set() and marks <= whole.groups.keys()
     assert plain.axis.get_xlabel() == "time (units of the instance)"
@@ -340,23 +321,13 @@ def test_what_is_drawn_is_named_in_letters_that_can_be_read(folder: pathlib.Path
     assert whole.axis.title.get_window_extent().y0 > rows.y1
     picture = PAPER.drawn(folder)
     assert picture.figure.get_figwidth() == 3.5
-    for text in picture.texts():
+    ticks = [label for axis in (picture.axis, *picture.axis.child_axes) for label in
+             (*axis.get_xticklabels(), *axis.get_yticklabels())]
+    for text in (*picture.axis.texts, *ticks, picture.axis.title, picture.axis.xaxis.label, picture.axis.yaxis.label):
         box = text.get_window_extent()
         assert text.get_size() >= 7 and box.x0 >= 0 and box.x1 <= picture.figure.bbox.x1, text
     boxes = [label.get_window_extent() for label in picture.axis.get_xticklabels()]
     assert len(boxes) > 2 and all(after.x0 > before.x1 + 2 for before, after in itertools.pairwise(boxes))
-
-
-@pytest.mark.parametrize("bound", [9, 10])
-def test_the_bound_is_a_dashed_line_at_its_time_through_all_rows(bound: int, folder: pathlib.Path) -> None:
-    """A wider white line is drawn under it, and over the bars and the path. Nothing cuts them at the end."""
-    groups = drawn(folder, "--critical", "--bound", str(bound)).groups
-    line, below = groups["bound"], groups["beside-bound"]
-    for each in (line, below):
-        assert (list(each.get_xdata()), list(each.get_ydata())) == ([bound] * 2, [0, 1]) and not each.get_clip_on()
-    assert line.is_dashed() and not below.is_dashed() and below.get_linewidth() > line.get_linewidth()
-    assert (line.get_color(), below.get_color()) == ("black", "white")
-    assert line.get_zorder() > below.get_zorder() > groups["critical-2"].get_zorder() > 2
 
 
 def test_the_critical_path_leads_from_0_to_the_makespan_without_idle_time(case: Case, picture: Picture) -> None:
@@ -372,12 +343,6 @@ def test_the_critical_path_leads_from_0_to_the_makespan_without_idle_time(case: 
 
 
 # Papers
-
-@pytest.mark.parametrize(("words", "due"), [(["--no-title"], ""), (["--title", ""], ""),
-                                            (["--title", "jobs of $48$"], "jobs of $48$")])
-def test_the_title_is_the_one_given(folder: pathlib.Path, words: list[str], due: str) -> None:
-    assert drawn(folder, *words).title == due
-
 
 @pytest.mark.parametrize(("words", "text", "size"), [
     ([], THREE, (1320, 235)), (["--width", "2"], THREE, (220, 235)), (["--dpi", "300"], THREE, (3600, 642)),
@@ -429,7 +394,7 @@ def test_the_example_of_the_manual_page(folder: pathlib.Path, pfs: Program, scri
 # Rows that are an image
 
 # 2,000 jobs of one unit on each of two machines, but for one of 600 on the first one, for which the second one waits.
-STEPS = Case("", [*range(1, 2001)], schedule_of([[600 if job == 1000 else 1, 1] for job in range(2000)]), ())
+STEPS = Case("", instance_of([[600 if job == 1000 else 1, 1] for job in range(2000)]), [*range(1, 2001)], ())
 
 
 def test_a_pixel_of_an_image_has_the_mean_of_the_colours_at_its_time(folder: pathlib.Path) -> None:
@@ -462,40 +427,29 @@ def test_from_this_number_of_operations_on_the_rows_are_an_image() -> None:
         assert chart.is_image == (count > most), f"{count:,} operations"
 
 
-@pytest.fixture(scope="module")
-def greatest(pfs: Program, tmp_path_factory: pytest.TempPathFactory) -> pathlib.Path:
-    """A folder with the greatest time table, 5,000 by 200."""
-    folder = tmp_path_factory.mktemp("greatest")
+@pytest.mark.seconds(10)
+def test_the_greatest_table_is_drawn_soon_and_small(scripts: pathlib.Path, matplotlib: None, pfs: Program,
+                                                    folder: pathlib.Path) -> None:
+    """5,000 by 200, within 20 seconds, 300 MB of memory and 20 MB of file."""
     (folder / "shop").write_bytes(pfs.run("generate 5000 200 7", folder).stdout)
     (folder / "order").write_bytes(second_program.order_text(range(5000), 200, 0))
     (folder / "table").write_bytes(pfs.run("table --layout taillard shop order", folder).stdout)
-    return folder
-
-
-@pytest.mark.seconds(10)
-@pytest.mark.xdist_group("gantt, greatest")
-@pytest.mark.parametrize("ending", BEGINNINGS)
-def test_the_greatest_table_is_drawn_soon_and_small(ending: str, scripts: pathlib.Path, matplotlib: None,
-                                                    greatest: pathlib.Path) -> None:
-    """Within 20 seconds, 300 MB of memory and 20 MB of file."""
-    picture = greatest / f"picture.{ending}"
-    ran = run_limited(Program(scripts / "pfs-gantt"), ["--critical", "table", picture.name], greatest, 4_000_000_000)
-    assert ran.ran.status == 0 and picture.read_bytes().startswith(BEGINNINGS[ending])
+    words, picture = ["--critical", "table", "picture.pdf"], folder / "picture.pdf"
+    ran = run_limited(Program(scripts / "pfs-gantt"), words, folder, 4_000_000_000)
+    assert ran.ran.status == 0 and picture.read_bytes().startswith(b"%PDF-")
     assert (ran.seconds < 20, ran.resident < 300e6, picture.stat().st_size < 20e6) == (True,) * 3, ran
 
 
 # Files
 
-@pytest.mark.parametrize("ending", BEGINNINGS)
-def test_a_full_disk_keeps_the_old_picture(scripts: pathlib.Path, folder: pathlib.Path, matplotlib: None,
-                                           ending: str) -> None:
+def test_a_full_disk_keeps_the_old_picture(scripts: pathlib.Path, folder: pathlib.Path, matplotlib: None) -> None:
     (folder / "table").write_text(THREE)
-    (folder / f"picture.{ending}").write_text("the old one")
-    got = run_tool([tool("prlimit"), "--fsize=1000", scripts / "pfs-gantt", "table", f"picture.{ending}"], folder,
+    (folder / "picture.svg").write_text("the old one")
+    got = run_tool([tool("prlimit"), "--fsize=1000", scripts / "pfs-gantt", "table", "picture.svg"], folder,
                    env=os.environ | {"COV_CORE_DATAFILE": ""})  # which writes a file too
-    assert got == Done(4, "", f"pfs-gantt: picture.{ending}: File too large\n")
-    assert (folder / f"picture.{ending}").read_text() == "the old one", "the picture was written in place"
-    assert sorted(os.listdir(folder)) == [f"picture.{ending}", "table"]
+    assert got == Done(4, "", "pfs-gantt: picture.svg: File too large\n")
+    assert (folder / "picture.svg").read_text() == "the old one", "the picture was written in place"
+    assert sorted(os.listdir(folder)) == ["picture.svg", "table"]
 
 
 @pytest.mark.parametrize(("line", "what", "module"), [
