@@ -252,14 +252,9 @@ def test_pictures_without_a_key_and_with_names_that_are_cut_in_it() -> None:
     bars, key, _ = texts_of(plan(), ax=matplotlib.figure.Figure(figsize=(12, 3)).subplots())
     assert key == [] and {name for each in bars.values() for name in each} <= {*NAMES}, "no place without a key"
     names = ["x" * 300, *NAMES[1:]]
-    _, key, figure = texts_of(plan(names), width=4)
+    made = pfs.Instance(LENGTHS, job_names=names, machine_names=[*MACHINES[:2], "oven " * 30]).schedule(ORDER)
+    _, key, figure = texts_of(made, width=4)
+    assert [label.get_text() for label in figure.axes[0].get_yticklabels()] == ["saw", "drill", "oven oven ove\u2026"]
     assert key[0].startswith("1 xxx") and key[0].endswith("x\u2026") and len(key[0]) < 100
     assert [line.split(" ", 1)[1] for line in key[1:]] == [names[job] for job in ORDER[1:]]
     assert max(text.get_window_extent().x1 for text in figure.texts) <= figure.bbox.width
-
-
-def test_names_fit_the_bars_next_to_long_names_of_machines() -> None:
-    made = pfs.Instance(LENGTHS, job_names=["0815-" * 30, *NAMES[1:]], machine_names=[*MACHINES[:2], "oven " * 30])
-    bars, _, figure = texts_of(made.schedule(ORDER))
-    assert figure.axes[0].get_yticklabels()[2].get_text() == ("oven " * 30)[:41] + "\u2026"
-    assert all(text.startswith("1 0815-") and text.endswith("\u2026") for text in bars[0])

@@ -168,7 +168,7 @@ CASES = [
     Case("nothing takes time, 1 by 1", instance_of([[0]]), [1]),
     Case("nothing takes time, 2 by 2", instance_of([[0, 0], [0, 0]]), [1, 2]),
     *map(at_random, range(8)), by_taillard(20, 5, 873654221, "--critical"), PAPER,
-    by_taillard(500, 20, 5, "--critical")]
+    by_taillard(100, 10, 5, "--critical")]
 
 
 @pytest.fixture(scope="module", params=CASES, ids=[case.name for case in CASES])
@@ -346,28 +346,21 @@ def test_the_critical_path_leads_from_0_to_the_makespan_without_idle_time(case: 
 
 @pytest.mark.parametrize(("words", "text", "size"), [
     ([], THREE, (1320, 235)), (["--width", "2"], THREE, (220, 235)), (["--dpi", "300"], THREE, (3600, 642)),
-    (["--dpi", "20"], f"table 1 200\n1{' 0 0' * 200}\nmakespan 0\n", (240, 266)),
-], ids=["usual", "narrow", "fine", "the most rows"])
+    (["--dpi", "20"], f"table 1 40\n1{' 0 0' * 40}\nmakespan 0\n", (240, 266)),
+], ids=["usual", "narrow", "fine", "many rows"])
 def test_a_png_has_the_requested_size(words: list[str], text: str, size: tuple[int, int], folder: pathlib.Path) -> None:
-    """Inches times dots per inch; two rows of 0.42 inches and 1.3 inches for the rest. The most rows are 12 inches
-    high."""
+    """Inches times dots per inch; two rows of 0.42 inches and 1.3 inches for the rest. Many rows are 12 inches high."""
     assert gantt(folder, *words, "table", "picture.png", text=text) == Done(0, "", "")
     png = (folder / "picture.png").read_bytes()
     assert struct.unpack(">II", png[16:24]) == pytest.approx(size, abs=1)
 
 
-def test_the_pages_state_the_defaults_and_the_exit_statuses(folder: pathlib.Path) -> None:
-    """The same picture comes of it, and another one of another value."""
+def test_the_pages_state_the_defaults_and_the_exit_statuses() -> None:
     items = re.findall(r"^\.It Fl -(\w+)[^\n]*\n(.*?)(?=^\.It|^\.El)", MANUAL, re.MULTILINE | re.DOTALL)
     got = {option: value for option, text in items
            for value in re.findall(r"^The default is (.*)\.$", text, re.MULTILINE)}
-    assert got.keys() == {"width", "dpi"}
-    assert gantt(folder, "table", "usual.png") == Done(0, "", "")
-    for option, value in got.items():
-        for number, is_usual in ((value, True), (str(int(value) - 1), False)):
-            assert gantt(folder, f"--{option}", number, "table", "picture.png") == Done(0, "", "")
-            is_same = (folder / "picture.png").read_bytes() == (folder / "usual.png").read_bytes()
-            assert is_same == is_usual, f"--{option} {number}, where the page states {value} as its default"
+    given = vars(_gantt.words().parse_args(["picture.svg"]))
+    assert got == {option: f"{given[option]:g}" for option in ("width", "dpi")}
     source = MANUAL.partition("\n.Sh EXIT STATUS\n")[2].partition("\n.Sh ")[0]
     assert re.findall(r"^\.It (\d)\n(.*)$", source, re.MULTILINE) == [
         ("0", "The picture is written."), ("2", "The time table is rejected."), ("3", "The command line is rejected."),
