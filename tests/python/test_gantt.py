@@ -34,6 +34,7 @@ LETTERS, SMALL, DIGIT = 8, 7, 0.636
 
 BAD = {
     "another line after it": THREE + "makespan 10\n",
+    "carriage returns": THREE.replace("\n", "\r\n"),
     "two blanks": THREE.replace(" 9 10", "  9 10"),
     "no number of machines": THREE.replace("table 3 2", "table 3"),
     "a job more in the first line": THREE.replace("table 3 2", "table 4 2"),
