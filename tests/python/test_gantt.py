@@ -8,6 +8,8 @@ import pathlib
 import random
 import re
 import struct
+import sys
+from collections.abc import Callable
 from typing import Any, NamedTuple
 from unittest import mock
 
@@ -16,6 +18,7 @@ import pytest
 from hypothesis import given
 from hypothesis import strategies as st
 from pfs import _drawing, _gantt
+from pfs.experiments import __main__ as experiments
 from support import second_program
 from support.colours import contrast, hexadecimal, least_difference, seen, turn
 from support.files import generated
@@ -446,21 +449,18 @@ def test_a_full_disk_keeps_the_old_picture(scripts: pathlib.Path, folder: pathli
     assert sorted(os.listdir(folder)) == ["picture.svg", "table"]
 
 
-@pytest.mark.parametrize(("line", "what", "module"), [
-    *(("pfs-gantt table made.svg", "pfs-gantt: a picture", module) for module in ("numpy", "matplotlib")),
-    *(("pfs-experiments report runs made.svg", "pfs-experiments report: a report", module)
+@pytest.mark.parametrize(("main", "line", "what", "module"), [
+    *((_gantt.main, "pfs-gantt table", "pfs-gantt: a picture", module) for module in ("numpy", "matplotlib")),
+    *((experiments.main, "pfs-experiments report runs", "pfs-experiments report: a report", module)
       for module in ("matplotlib", "pandas", "scipy"))])
-def test_a_missing_module_is_named_with_its_package(line: str, what: str, module: str, scripts: pathlib.Path,
-                                                    folder: pathlib.Path, matplotlib: None) -> None:
-    """Before anything is written, here or by the report of an experiment."""
-    (folder / "without").mkdir()
-    (folder / "without" / f"{module}.py").write_text("raise ImportError('none')\n")
-    (folder / "table").write_text(THREE)
-    (folder / "runs").write_text("instance,makespan\na,1\n")
-    got = run_tool([scripts / line.split()[0], *line.split()[1:]], folder,
-                   env=dict(os.environ, PYTHONPATH=str(folder / "without"), PYTHONDONTWRITEBYTECODE="1"))
+def test_a_missing_module_is_named_with_its_package(main: Callable[[], int], line: str, what: str, module: str,
+                                                    folder: pathlib.Path, monkeypatch: pytest.MonkeyPatch) -> None:
+    """Before anything is read or written, here or by the report of an experiment."""
+    modules: dict[str, Any] = sys.modules
+    monkeypatch.setitem(modules, module, None)
+    got = run_main(main, [*line.split(), "made.svg"], folder)
     assert got == Done(4, "", f"{what} needs {module} (Debian: python3-{module}; pip install 'pfs[charts]')\n")
-    assert not (folder / "made.svg").exists()
+    assert os.listdir(folder) == []
 
 
 @pytest.mark.parametrize(("text", "said"), [

@@ -185,10 +185,7 @@ def test_another_form_is_refused(path: str, more: Any, client: FlaskClient) -> N
 
 AT = {"at": "2026-12-01T10:00"}
 TELLS: list[tuple[str, Any, str]] = [
-    ("plan", {"shop": {**SHOP, "times": [[1, 2, 3], [1, 2], [1, 2, 3], [1, 2, 3]]}}, "times"),
-    ("plan", {"shop": {**SHOP, "times": [[-1, 2, 3]] * 4}}, "times"),
     ("plan", {"shop": {**SHOP, "jobs": ["a", "a", "b", "c"]}}, "'a' occurs twice"),
-    ("plan", {"calendar": {**DATES, "begin": "2026-02-30T06:00"}}, "2026-02-30"),
     ("plan", {"calendar": {**DATES, "shifts": "6 to 14"}}, "is not a shift"),
     ("plan", {"calendar": {**DATES, "begin": ""}}, '"Shifts" needs "Work begins"'),
     ("plan", {"shop": {**SHOP, "unit": ""}}, "the times have no unit"),
@@ -344,9 +341,8 @@ def test_texts_of_a_workbook_need_a_decimal_sign(client: FlaskClient) -> None:
 
 
 BROKEN = {
-    "an archive of nothing": b"PK\x03\x04" + bytes(100), "another archive": b"PK\x05\x06" + bytes(18),
-    "an old workbook": b"\xd0\xcf\x11\xe0" + bytes(500), "nothing": b"", "zeros": bytes(1_000),
-    "UTF-16": b"\xff\xfe\x00",
+    "an archive of nothing": b"PK\x03\x04" + bytes(100), "an old workbook": b"\xd0\xcf\x11\xe0" + bytes(500),
+    "nothing": b"", "zeros": bytes(1_000), "half a letter of UTF-16": b"\xff\xfe\x00",
     "a picture": b"\x89PNG\r\n\x1a\n" + random.Random(1).randbytes(2_000), "a quote": b'"' * 4_001,
     "a cut workbook": workbook({"a": [["job", "saw"], ["b", 1]]})[:-40],
 }

@@ -1,6 +1,5 @@
 """The page for planners in a browser: a week of a planner, by a pointer and by the keyboard alone."""
 import base64
-import contextlib
 import difflib
 import json
 import pathlib
@@ -10,7 +9,6 @@ from typing import Any
 
 import pytest
 from support.needs import require_module, tool
-from support.tools import wait_until
 from test_web import LONG, workbook
 from test_web_server import Server, served
 
@@ -20,7 +18,7 @@ from selenium.webdriver.chrome.service import Service
 from selenium.webdriver.common.by import By
 from selenium.webdriver.common.keys import Keys
 from selenium.webdriver.remote.webelement import WebElement
-from selenium.webdriver.support.ui import Select
+from selenium.webdriver.support.ui import Select, WebDriverWait
 
 pytestmark = [pytest.mark.seconds(40), pytest.mark.xdist_group("page")]
 SCRIPT = "<img src=x onerror=\"document.title='run'\">"
@@ -78,11 +76,7 @@ class Page:
         element.send_keys(text, Keys.TAB)
 
     def wait(self, has_come: Callable[[], Any], what: str = "the page shows it") -> None:
-        def without_faults() -> bool:
-            with contextlib.suppress(Exception):
-                return bool(has_come())
-            return False
-        wait_until(without_faults, what, 20)
+        WebDriverWait(self.browser, 20, 0.05, [Exception]).until(lambda _: has_come(), what)
 
     def drop(self, name: str, content: bytes) -> None:
         """Choose a file."""
@@ -360,13 +354,12 @@ const faults = [], all = selector => [...document.querySelectorAll(selector)].fi
 const check = (isTrue, what, each) => isTrue || faults.push([what, each.tagName, each.id, each.textContent]);
 const style = (each, name) => getComputedStyle(each)[name], box = each => each.getBoundingClientRect();
 const body = document.body, room = document.documentElement.clientWidth;
-const dark = matchMedia("(prefers-color-scheme: dark)");
 const over = (text, under) => {
   const [red, green, blue, part = 1] = text.match(/[\d.]+/g).map(Number);
   return [red, green, blue].map((each, at) => part * each + (1 - part) * under[at]);
 };
-const ground = (each, last = Array(3).fill(dark.matches ? 18 : 255)) => each
-  ? over(style(each, "backgroundColor"), ground(each.parentElement, last)) : last;
+const last = Array(3).fill(matchMedia("(prefers-color-scheme: dark)").matches ? 18 : 255);
+const ground = each => each ? over(style(each, "backgroundColor"), ground(each.parentElement)) : last;
 const light = colour => colour.map(each => each / 255).reduce((sum, each, at) => sum + [.2126, .7152, .0722][at]
   * (each < .04 ? each / 12.92 : ((each + .055) / 1.055) ** 2.4), .05);
 for (const each of all("body *")) {
@@ -381,26 +374,26 @@ for (const row of all("header, section div:not(.list), #options"))
     check(!next || (isBelow ? next.top - own.bottom : next.left - own.right) >= 7, "too close", each);
     check(!next || isBelow || Math.abs(own.top + own.bottom - next.top - next.bottom) < 20, "not in line", each);
   });
-const most = Math.min(room, 1230);
-// What is seen by these names: its width or height, from the least to the most.
-for (const [selector, side, least, greatest] of [
-    ["body", "width", most - 20, most], ["h1, h2, h3", "height", 20, 30],
-    [".list tr[aria-rowindex], .list thead tr", "height", 32, 32],
+const most = Math.min(room, 1230), middle = (room - box(body).width) / 2;
+// What is seen by these names: where it is, its size or its style, from the least to the most.
+for (const [selector, name, least, greatest = least] of [
+    ["body", "width", most - 20, most], ["body", "left", middle - 1, middle + 1], ["#language", "left", room / 2, room],
+    ["h1, h2, h3", "height", 20, 30], [".list tr[aria-rowindex], .list thead tr", "height", 32],
     [".list, #faults", "height", 0, 361], ["iframe", "height", 400, 500],
     ["section > *:not(table, h3)", "width", .9 * most - 27, most],
     ["#order table", "width", .98 * all("#order")[0]?.clientWidth || 0, 5000],
     ["#table td:first-of-type input", "width", 150, 200], ["#table td:not(:first-of-type) input", "width", 90, 130],
-    ["[type=number]", "width", 50, 80]])
-  for (const each of all(selector)) check(box(each)[side] >= least && box(each)[side] <= greatest, side, each);
-for (const [selector, name, due] of [
-    ["#plan, .best td", "fontWeight", "600"], ["#table .off input", "opacity", "0.5"],
-    [".number", "textAlign", "right"], ["td:not(.number), #faults button", "textAlign", "left"],
-    [".list td", "textOverflow", "ellipsis"],
+    ["[type=number]", "width", 50, 80], ["#plan, .best td", "fontWeight", "600"],
+    ["#table .off input", "opacity", "0.5"], [".number", "textAlign", "right"],
+    ["td:not(.number), #faults button", "textAlign", "left"], [".list td", "textOverflow", "ellipsis"],
     ["#table [type=text]", "borderTopStyle", "none"], [".wrong", "outlineStyle", "solid"],
     ["#drop", "borderTopStyle", "dashed"], ["#message", "whiteSpace", "pre-wrap"], ["h2", "borderBottomStyle", "solid"],
     ["td, th", "borderLeftStyle", "solid"], ["body, input, select, button, textarea", "fontSize", "15px"],
     ["input, select, button, textarea", "fontFamily", style(body, "fontFamily")]])
-  for (const each of all(selector)) check(style(each, name) === due, `${name} ${style(each, name)}`, each);
+  for (const each of all(selector)) {
+    const found = box(each)[name] ?? style(each, name);
+    check(found >= least && found <= greatest, `${name} ${found}`, each);
+  }
 for (const each of all(".held, .moved, .wrong")) check(`${ground(each)}` !== `${ground(body)}`, "not marked", each);
 for (const each of all(".list thead th")) check(!style(each, "backgroundColor").includes("a"), "is seen through", each);
 for (const each of all("#order .name")) for (const cell of each.parentElement.cells)
@@ -412,8 +405,6 @@ for (const each of all(".list thead th")) {
   check(Math.abs(box(each).top - box(each.closest(".list")).top) < 2, "scrolled away", each);
 }
 scrollTo(0, 0);
-check(Math.abs(box(body).left + box(body).right - room) < 2, "not in the middle", body);
-for (const each of all("#language")) check(box(each).left > room / 2, "at the left", each);
 for (const each of all("#order .start")) check(room > 700, "not needed on a phone", each);
 return faults;"""
 

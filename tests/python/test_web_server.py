@@ -19,7 +19,7 @@ from pfs.web import __main__ as web
 from support.needs import tool
 from support.plainly import environment
 from support.servers import answers, free_port
-from support.tools import TOP, output_of, run_tool, stop, wait_until
+from support.tools import TOP, output_of, run_main, run_tool, stop, wait_until
 from test_web import LONG, PLAN, TOKEN
 
 COMMAND = [sys.executable, "-m", "pfs.web"]
@@ -38,6 +38,7 @@ class Server:
                          {"X-Pfs-Token": self.token, "Content-Type": "application/json", **headers})
             got = line.getresponse()
             text = got.read()
+        assert "Server" not in got.headers, "no response names the server"
         is_json = got.headers.get("Content-Type", "").startswith("application/json")
         return got.status, json.loads(text) if is_json else text
 
@@ -93,7 +94,7 @@ def test_the_manual_page_has_the_options() -> None:
     (["--token-file", "."], ".: other users can read the token: chmod o= ."), (["extra"], "unrecognized arguments: e")])
 def test_what_would_be_unsafe_is_rejected(words: list[str], said: str, tmp_path: pathlib.Path) -> None:
     tmp_path.chmod(0o704)
-    done = run_tool([*COMMAND, *words], tmp_path, env=environment())
+    done = run_main(web.main, ["pfs-web", *words], tmp_path)
     assert (done.status, done.stdout) == (3, "") and done.stderr.startswith("pfs-web: ") and said in done.stderr
 
 
@@ -121,28 +122,14 @@ def test_a_browser_opens_where_there_is_a_screen(words: list[str], screen: str, 
     assert ["url=http://127.0.0.1:1/#" in text for text in opened] == [True] * is_opened
 
 
-def test_no_response_names_the_server(server: Server) -> None:
-    with contextlib.closing(http.client.HTTPConnection("127.0.0.1", server.port, timeout=30)) as line:
-        line.request("GET", "/")
-        assert "Server" not in line.getresponse().headers
-
-
 # Its limits
 
-def sent(port: int, head: str, body: bytes = b"") -> bytes:
-    """The first line of the response to these bytes."""
-    with socket.create_connection(("127.0.0.1", port), timeout=10) as line:
-        line.sendall(head.replace("\n", "\r\n").encode() + body)
-        return line.recv(200).split(b"\r\n")[0]
-
-
 def test_what_is_too_large_is_refused_before_it_is_read(server: Server) -> None:
-    head = f"POST /api/read HTTP/1.1\nHost: 127.0.0.1:{server.port}\nX-Pfs-Token: {server.token}\n"
-    for length in (9 * 2**20, 5_000_000_000_000):
+    for status, headers in ((413, {"Content-Length": "9437184"}), (413, {"Content-Length": "5000000000000"}),
+                            (431, {"X-Long": "a" * 20_000})):
         begun = time.monotonic()
-        assert b"413" in sent(server.port, f"{head}Content-Length: {length}\n\n")
+        assert server.ask("/api/read", None, "POST", **headers)[0] == status
         assert time.monotonic() - begun < 1
-    assert b"431" in sent(server.port, head + f"X-Long: {'a' * 20_000}\n\n")
 
 
 def test_requests_that_are_half_sent_stop_nobody(server: Server) -> None:
