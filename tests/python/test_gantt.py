@@ -21,13 +21,12 @@ from pfs import _drawing, _gantt
 from pfs.experiments import __main__ as experiments
 from support import second_program
 from support.colours import contrast, hexadecimal, least_difference, seen, turn
-from support.files import generated
 from support.large import run_limited
 from support.lines import TIME_TABLE
 from support.needs import tool
 from support.program import Program
 from support.second_program import instance_of
-from support.tools import TOP, Done, run_main, run_tool, with_path
+from support.tools import TOP, Done, run_main, run_tool
 
 PAGE, MANUAL = (TOP / "docs" / "COOKBOOK.md").read_text(), (TOP / "python" / "pfs-gantt.1").read_text()
 THREE = TIME_TABLE.decode()
@@ -359,7 +358,8 @@ def test_a_png_has_the_requested_size(words: list[str], text: str, size: tuple[i
     assert struct.unpack(">II", png[16:24]) == pytest.approx(size, abs=1)
 
 
-def test_the_pages_state_the_defaults_and_the_exit_statuses() -> None:
+def test_the_pages_state_the_defaults_the_exit_statuses_and_an_example() -> None:
+    """Its command is that of the other page, which tests/tools/test_pages.py runs, with other names."""
     items = re.findall(r"^\.It Fl -(\w+)[^\n]*\n(.*?)(?=^\.It|^\.El)", MANUAL, re.MULTILINE | re.DOTALL)
     got = {option: value for option, text in items
            for value in re.findall(r"^The default is (.*)\.$", text, re.MULTILINE)}
@@ -370,22 +370,9 @@ def test_the_pages_state_the_defaults_and_the_exit_statuses() -> None:
         ("0", "The picture is written."), ("2", "The time table is rejected."), ("3", "The command line is rejected."),
         ("4", "A file can't be read or written, or a package is missing.")]
     assert re.findall(r"rejected with one line on standard error and status (\d)", PAGE) == ["2"]
-
-
-@pytest.mark.quick
-def test_the_example_of_the_manual_page(folder: pathlib.Path, pfs: Program, scripts: pathlib.Path,
-                                        matplotlib: None) -> None:
-    """It draws what pfs prints."""
-    line = re.search(r"^\.Dl \$ (.*)$", MANUAL, re.MULTILINE)
-    assert line
-    (folder / "instance").write_bytes(generated(20, 5, 873654221))
-    (folder / "order").write_bytes(pfs.run("solve --layout taillard instance", folder).stdout)
-    for name, path in (("pfs", pfs.path), ("pfs-gantt", scripts / "pfs-gantt")):
-        (folder / name).symlink_to(path)
-    assert run_tool(["sh", "-c", line[1]], folder, env=with_path(folder)) == Done(0, "", "")
-    picture = (folder / "chart.svg").read_text()
-    assert {"machine-5", "critical-1", "critical-5"} <= set(re.findall('<g id="(.*?)"', picture))
-    assert {">time (units of the instance)<", ">20<"} <= set(re.findall(r">[^<>\n]+<", picture)), "texts are texts"
+    shown, = re.findall(r"^\$ (pfs table .* \| pfs-gantt .*)$", PAGE, re.MULTILINE)
+    assert re.findall(r"^\.Dl \$ (.*)$", MANUAL, re.MULTILINE) \
+        == [shown.replace("three best", "instance order").replace("schedule.svg", "chart.svg")]
 
 
 # Rows that are an image

@@ -302,11 +302,6 @@ def test_faults_name_their_cells_and_controls(client: FlaskClient) -> None:
     assert set(places) == {(3, 2), (4, 3), (5, 3), (5, 4), (6, 1)}
     assert "the tick for sums, above the table" in places[3, 2] and "Decimal sign, above the table" in places[4, 3]
     assert "`" not in "".join(places.values()) and got["suggested"] == ["saw", "drill"] and "shop" not in got
-    rows = [row for row in got["rows"] if row[0] != 5]
-    rows[2][1][2] = "1"
-    options = {"delimiter": ";", "machines": ["saw", "drill"]}
-    mended = answer(client, "/api/read", {"rows": rows[:3], "options": options})
-    assert mended["faults"] == [] and mended["shop"]["times"] == [[1, 2]], "rows that are left out keep other lines"
 
 
 def workbook(sheets: dict[str, list[list[Any]]]) -> bytes:

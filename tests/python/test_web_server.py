@@ -181,19 +181,15 @@ def test_a_planner_has_the_address_that_the_proxy_names(is_behind: bool) -> None
         assert [status("192.0.2.2"), status("192.0.2.1")] == [200 if is_behind else 429, 429]
 
 
-def recipe() -> str:
-    """The settings of nginx on the page on installing."""
-    return str(re.findall(r"```nginx\n(.*?)```", (TOP / "docs" / "INSTALL.md").read_text(), re.DOTALL)[0])
-
-
 def test_the_recipe_for_nginx_serves_the_page_by_tls(token_file: pathlib.Path, tmp_path: pathlib.Path) -> None:
-    """The page names a machine and files, which are others here."""
+    """The page on installing names a machine and files, which are others here."""
     nginx, port = tool("nginx"), free_port()
     output_of([tool("openssl"), "req", "-x509", "-newkey", "rsa:2048", "-nodes", "-keyout", "key.pem", "-out",
                "cert.pem", "-days", "2", "-subj", "/CN=planning.example", "-addext",
                "subjectAltName=DNS:planning.example"], tmp_path)
     with served("--name", "planning.example", "--proxy", "--token-file", str(token_file)) as found:
-        text = recipe().replace("8470", str(found.port)).replace("listen 443", f"listen 127.0.0.1:{port}")
+        text, = re.findall(r"```nginx\n(.*?)```", (TOP / "docs" / "INSTALL.md").read_text(), re.DOTALL)
+        text = text.replace("8470", str(found.port)).replace("listen 443", f"listen 127.0.0.1:{port}")
         text = re.sub(r"/etc/\S+/(cert|key)\.pem", rf"{tmp_path}/\1.pem", text)
         temporary = "".join(f"{kind}_temp_path {tmp_path}/{kind}; "
                             for kind in ("client_body", "proxy", "fastcgi", "uwsgi", "scgi"))

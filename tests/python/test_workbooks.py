@@ -261,5 +261,3 @@ def test_all_schedules_are_written(tmp_path: pathlib.Path) -> None:
     assert (status, got) == (0, "")
     assert (tmp_path / "b.csv").read_bytes() == (tmp_path / "\udce4.csv").read_bytes()
     assert ended(["plan", "times.xlsx", "--order", "a.xlsx"], tmp_path) == (0, printed, "")
-    (tmp_path / "d.csv").mkdir()
-    assert ended(["plan", "times.xlsx", "--schedule", "d.csv"], tmp_path) == (4, "", "pfs: d.csv: Is a directory\n")
