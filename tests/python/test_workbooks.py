@@ -27,7 +27,7 @@ def book_of(path: pathlib.Path, *rows: Sequence[object], title: str = "Sheet",
     """A workbook with these rows on its first sheet, and more sheets with theirs."""
     book = openpyxl.Workbook()
     book.active.title = title
-    for name, sheet in {title: rows, **more}.items():
+    for name, sheet in ((title, rows), *more.items()):
         for row in sheet:
             (book[name] if name in book.sheetnames else book.create_sheet(name)).append(row)
     book.save(path)
