@@ -293,8 +293,7 @@ const listed = lists.map(list => [...list.tBodies[0].rows].map(row => [...row.ce
 
 
 class Page(NamedTuple):
-    """A schedule, a script that looks at its page in a frame of this width, what else its chart has, and what somebody
-    has put into the page."""
+    """A schedule, a script that looks at its page in a frame of this width, and what else its chart or its page has."""
     made: pfs.Schedule
     script: str
     more: dict[str, Any] = {}
@@ -389,12 +388,10 @@ MOVES: dict[str, tuple[tuple[float, float], str]] = {
     FAR_IN + 'touch(1, 50); touch(2, 75); slide(2, 51)' + LIFT + LEAVE: ((0, 125), ""),
     FAR_IN + 'touch(1, 25); slide(1, 50); lift(1)': ((30.5 - 64 / 5, 94.5 - 64 / 5), ""),
     FAR_IN + 'touch(1, 25); lift(1, "pointercancel"); slide(1, 50)' + LEAVE: ((30.5, 94.5), ""),
-    FAR_IN + 'touch(1, 25, MOUSE); slide(1, 50, MOUSE); lift(1)': ((30.5 - 64 / 5, 94.5 - 64 / 5), ""),
-    FAR_IN + 'touch(1, 25, {...MOUSE, button: 2}); slide(1, 50, MOUSE)' + LEAVE: ((30.5, 94.5), ""),
+    FAR_IN + 'touch(1, 25, {button: 2}); slide(1, 50)' + LEAVE: ((30.5, 94.5), ""),
     'canvas.style.width = "600px"; window.dispatchEvent(new Event("resize"))': ((0, 125), ""),
 }
 PAGES["hands"] = Page(schedule(), MEASURED + """
-const MOUSE = {pointerType: "mouse"};
 Object.assign(canvas.style, {position: "absolute", left: 0, width: "1119px"});
 function finger(kind, pointerId, time, machine, more) {
   const x = left + time / 125 * plot();
@@ -741,10 +738,9 @@ choice.value = "all";
 choice.dispatchEvent(new Event("change"));
 places.open = true;
 places.dispatchEvent(new Event("toggle"));
-const opened = places.querySelectorAll("li").length;
 send("pointermove", PointerEvent, left + 5, TOP + 5);
 draw();
-const seen = {opened, screen: look()};
+const seen = {screen: look()};
 document.body.style.width = "160px";
 seen.lines = all("#lists :is(th, td)", cell => cell.textContent.includes(" ") || textBox(cell)[4]);
 document.body.style.width = "";
@@ -786,7 +782,7 @@ def test_blocks_and_columns_are_apart(pages: dict[str, Any], name: str, margin: 
         assert all(after[0] - before[2] > column for row in whole for before, after in itertools.pairwise(row)), rows
         for cells in zip(*whole):
             assert len({round(cell[cell[5]]) for cell in cells}) == 1, "cells of a column"
-    assert pages[name]["opened"] == 5 and {*pages[name]["lines"]} == {True}, "a word is broken where a list is narrow"
+    assert {*pages[name]["lines"]} == {True}, "a word is broken where a list is narrow"
     assert paper["blocks"][0][0] == 0 and 0.8 < paper["sizes"][-1][0] / size < 0.9
     assert {round(right) for right in paper["sheets"]} == {paper["width"]}, "the charts are as wide as the paper"
 

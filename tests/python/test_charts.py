@@ -175,13 +175,10 @@ def test_jupyter_shows_the_chart(monkeypatch: pytest.MonkeyPatch) -> None:
 
 
 @pytest.mark.parametrize(("words", "kind", "why"), [
-    ({"width": 1}, ValueError, "width must be from 2 to 100 inches, not 1"),
-    ({"width": float("nan")}, ValueError, "width must be from 2 to 100 inches, not nan"),
-    ({"width": "4"}, TypeError, "width must be a number of inches, not '4'"),
-    ({"width": True}, TypeError, "width must be a number of inches, not True"),
-    ({"width": 100.1}, ValueError, "width must be from 2 to 100 inches, not 100.1"),
-    ({"dpi": 19}, ValueError, "dpi must be from 20 to 2,400, not 19"),
-    ({"dpi": 2401}, ValueError, "dpi must be from 20 to 2,400, not 2401"),
+    *(({"width": width}, ValueError, f"width must be from 2 to 100 inches, not {width}")
+      for width in (1, 100.1, float("nan"))),
+    *(({"width": width}, TypeError, f"width must be a number of inches, not {width!r}") for width in ("4", True)),
+    *(({"dpi": dpi}, ValueError, f"dpi must be from 20 to 2,400, not {dpi}") for dpi in (19, 2401)),
     ({"title": 3}, TypeError, "title must be True, False or a text, not 3"),
     ({"ax": 3}, TypeError, "ax must be matplotlib axes, not 3")])
 def test_frames_of_pictures_that_are_rejected(tmp_path: pathlib.Path, words: dict[str, Any], kind: type[Exception],

@@ -157,7 +157,6 @@ def at_random(number: int) -> Case:
     draws = random.Random(number)
     jobs, machines, most = draws.randint(1, 12), draws.randint(1, 6), draws.choice([1, 3, 99, 1_000_000])
     times = [[draws.randint(0, most) for _ in range(machines)] for _ in range(jobs)]
-    times[-1][-1] += not any(map(any, times))
     return Case(f"random {number}, {jobs} by {machines}", instance_of(times), draws.sample(range(1, jobs + 1), jobs))
 
 
@@ -404,10 +403,8 @@ def test_from_this_number_of_operations_on_the_rows_are_an_image() -> None:
     stated, = re.findall(r"^- Of more than ([\d,]+) operations", PAGE, re.MULTILINE)
     most = int(stated.replace(",", ""))
     for count in (most, most + 1):
-        machines = max(each for each in range(1, 201) if count % each == 0)
-        times = [[0] * machines] * (count // machines)
-        spans = numpy.array(times)
-        chart = _drawing.Chart([*range(1, len(times) + 1)], spans, spans, ["a"] * len(times), ["b"] * machines)
+        spans = numpy.zeros((1, count), dtype=int)
+        chart = _drawing.Chart([1], spans, spans, ["a"], ["b"] * count)
         assert chart.is_image == (count > most), f"{count:,} operations"
 
 

@@ -111,12 +111,9 @@ STRANGERS = {
 @pytest.mark.parametrize("call", CALLS, ids=lambda call: " ".join(call[:2]))
 def test_a_stranger_computes_reads_and_ends_nothing(who: str, call: tuple[str, str, Any],
                                                     monkeypatch: pytest.MonkeyPatch) -> None:
-    def never(*_: Any) -> None:
-        pytest.fail("the request was answered")
-
     for kind, names in ((searches.Searches, ("add", "told", "end")), (apart.Apart, ("__call__",))):
         for name in names:
-            monkeypatch.setattr(kind, name, never)
+            monkeypatch.setattr(kind, name, mock.Mock(side_effect=AssertionError))
     (headers, due), (method, path, body) = STRANGERS[who], call
     got = asked(client_of(searches.Searches(1)), path, body, method, **headers)
     assert (got.status_code, got.json) == (due[0], {"error": due[1]})
@@ -627,9 +624,5 @@ def test_a_search_ends_when_nobody_asks(monkeypatch: pytest.MonkeyPatch) -> None
     client = client_of(found)
     names = [answer(client, "/api/search", LONG)["search"] for _ in range(2)]
     monkeypatch.setattr(searches, "FORGET", 0.3)
-    end = time.monotonic() + 5
-    while found.runs and time.monotonic() < end:
-        time.sleep(0.05)
-        answer(client, "/api/search/none", method="DELETE")
-    assert found.runs == {}
+    wait_until(lambda: not (answer(client, "/api/search/none", method="DELETE") or found.runs), "all are forgotten", 5)
     assert {asked(client, f"/api/search/{name}", method="GET").status_code for name in names} == {404}

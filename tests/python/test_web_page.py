@@ -512,7 +512,6 @@ def test_the_page_has_the_language_of_the_browser(page: Page) -> None:
         page.browser.execute_cdp_cmd("Network.setUserAgentOverride", {"userAgent": agent, "acceptLanguage": language})
         page.browser.execute_script("localStorage.removeItem('language')")
         page.browser.refresh()
-        page.wait(lambda: (page.one("html").get_attribute("lang"), page.one("#language").get_property("value"))
-                  == (due, due))
+        page.wait(lambda: page.one(f"html[lang={due}] #language").get_property("value") == due)
     Select(page.one("#language")).select_by_value("de")
     page.wait(lambda: page.text("h1") == "Flie\u00dffertigung planen")

@@ -211,15 +211,9 @@ def test_what_openpyxl_does_not_say_of_a_sheet() -> None:
 def test_rows_after_the_last_one_of_a_table_are_not_read(tmp_path: pathlib.Path,
                                                          monkeypatch: pytest.MonkeyPatch) -> None:
     path = book_of(tmp_path / "times.xlsx", *([f"j{at}", 1] for at in range(10_050)))
-    texts = list[object]()
-
-    def text_in(value: object) -> str:
-        texts.append(value)
-        return str(value)
-
-    monkeypatch.setattr(_workbooks, "text_in", text_in)
+    monkeypatch.setattr(_workbooks, "text_in", text_in := mock.Mock(side_effect=str))
     assert fault_of(path) == (10_002, 0, "the table has more than 10,000 rows")
-    assert len(texts) == 2 * 10_002
+    assert text_in.call_count == 2 * 10_002
 
 
 def test_a_schedule_is_shown_whole(tmp_path: pathlib.Path, office: Office) -> None:
