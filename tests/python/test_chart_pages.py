@@ -293,12 +293,13 @@ const listed = lists.map(list => [...list.tBodies[0].rows].map(row => [...row.ce
 
 
 class Page(NamedTuple):
-    """A schedule, a script that looks at its page in a frame of this width, and what else its chart has."""
+    """A schedule, a script that looks at its page in a frame of this width, and what else its chart or its page has."""
     made: pfs.Schedule
     script: str
     more: dict[str, Any] = {}
     width: int = 1000
     is_listed: bool = True
+    injected: str = ""
 
 
 def page_of(looks: list[Look]) -> Page:
@@ -330,7 +331,7 @@ def pages(chromium: str, tmp_path_factory: pytest.TempPathFactory) -> dict[str, 
     for name, page in PAGES.items():
         with mock.patch.object(_chart, "MOST_LISTED", _chart.MOST_LISTED * page.is_listed):
             page.made.plot(folder / "page.html", **page.more)
-        frames[name] = scripted(folder / "page.html", PEN + page.script), page.width
+        frames[name] = scripted(folder / "page.html", PEN + page.script, page.injected), page.width
     return all_looked_at(chromium, frames, folder)
 
 
@@ -364,18 +365,15 @@ LIFT = "; lift(1); lift(2)"
 # under them. An arrow moves by an eighth of what is seen. A finger is at the place that a time has in the whole chart.
 MOVES: dict[str, tuple[tuple[float, float], str]] = {
     'press("+")': ((12.5, 112.5), ""), 'press("+", "+", "+", "-")': ((22.5, 102.5), ""),
-    'press("+", "+", "0")': ((0, 125), ""), 'press("x", "Enter", "1")': ((0, 125), ""),
+    'press("x", "Enter", "1")': ((0, 125), ""), 'hover(70)' + LEAVE: ((0, 125), ""),
     'press("+", "+", "+", "ArrowRight")': ((38.5, 102.5), ""), 'press("+", "+", "+", "ArrowLeft")': ((22.5, 86.5), ""),
     'press(..."+".repeat(80))': ((60.5, 64.5), ""), 'press("+", ..."-".repeat(80))': ((0, 125), ""),
     'press("+", "+", ...Array(80).fill("ArrowRight"))': ((45, 125), ""),
     'press("+", "+", ...Array(80).fill("ArrowLeft"))': ((0, 80), ""),
-    'wheel(25, -1)': ((25 - 25 * IN, 25 + 100 * IN), ""), FAR_IN + 'wheel(from, 1)': ((30.5, 30.5 + 64 / IN), ""),
     'wheel(25, -1, 0, 20)': ((25 - 25 * IN, 25 + 100 * IN), TIP),
     FAR_IN + 'wheel(from, 1, 1)': ((30.5, 30.5 + 64 / IN), ""),
-    FAR_IN + 'wheel(from, 1, plot() / 8)': ((38.5, 102.5), ""),
     FAR_IN + 'wheel(from, 1, -plot() / 8)': ((22.5, 86.5), ""),
     'press("+"); send("dblclick", MouseEvent, left, 5)': ((0, 125), ""),
-    'hover(70)': ((0, 125), TIP_OF_DRILL), 'hover(0)': ((0, 125), ""), 'hover(70)' + LEAVE: ((0, 125), ""),
     FAR_IN + 'hover(70); send("pointermove", PointerEvent, width - RIGHT + 9, yOf(1) + ROW / 2)': ((30.5, 94.5), ""),
     'press("+", "+"); hover(70)': ((22.5, 102.5), TIP_OF_DRILL), 'tap(25)': ((0, 125), TIP),
     'tap(25); tap(5, 2)': ((0, 125), ""), 'touch(1, 25); touch(2, 75)' + LIFT: ((0, 125), TIP),
@@ -390,12 +388,10 @@ MOVES: dict[str, tuple[tuple[float, float], str]] = {
     FAR_IN + 'touch(1, 50); touch(2, 75); slide(2, 51)' + LIFT + LEAVE: ((0, 125), ""),
     FAR_IN + 'touch(1, 25); slide(1, 50); lift(1)': ((30.5 - 64 / 5, 94.5 - 64 / 5), ""),
     FAR_IN + 'touch(1, 25); lift(1, "pointercancel"); slide(1, 50)' + LEAVE: ((30.5, 94.5), ""),
-    FAR_IN + 'touch(1, 25, MOUSE); slide(1, 50, MOUSE); lift(1)': ((30.5 - 64 / 5, 94.5 - 64 / 5), ""),
-    FAR_IN + 'touch(1, 25, {...MOUSE, button: 2}); slide(1, 50, MOUSE)' + LEAVE: ((30.5, 94.5), ""),
+    FAR_IN + 'touch(1, 25, {button: 2}); slide(1, 50)' + LEAVE: ((30.5, 94.5), ""),
     'canvas.style.width = "600px"; window.dispatchEvent(new Event("resize"))': ((0, 125), ""),
 }
 PAGES["hands"] = Page(schedule(), MEASURED + """
-const MOUSE = {pointerType: "mouse"};
 Object.assign(canvas.style, {position: "absolute", left: 0, width: "1119px"});
 function finger(kind, pointerId, time, machine, more) {
   const x = left + time / 125 * plot();
@@ -485,11 +481,9 @@ def test_a_tip_is_next_to_the_pointer_and_in_the_window(pages: dict[str, Any]) -
 # Names that a page, a template or a replacement could take for something else
 
 DANGEROUS = [
-    "{{data}}", "{{title}}", "{{policy}}", "x autofocus onfocus=document.title=/PWNED/.source y", "</script><b id=x>",
-    "<script>document.title='PWNED'</script>", "\"><img src=x onerror=\"document.title='PWNED'\">", "' onload='x",
-    "<!--<script>", "]]>", "&lt;b&gt;&amp;", "\\u003cb\\u003e", "\\g<0> \\1 $& $1", "a\u2028b\u2029c", "__proto__",
-    "${document.title='PWNED'}", "javascript:document.title='PWNED'", "\u202eright to left", "</title><b>",
-]
+    "\u202eright to left", "{{data}}", "{{title}}", "x autofocus onfocus=document.title=/PWNED/.source y", "__proto__",
+    "</script><b id=x>", "<script>document.title='PWNED'</script>", "\"><img src=x onerror=\"document.title='PWNED'\">",
+    "' onload='x", "<!--<script>", "&lt;b&gt;&amp;", "\\u003cb\\u003e", "\\g<0> \\1 $& $1", "a\u2028b", "p\udce4rt"]
 UNIT = "{{data}} \"><b onclick=x></title><script>document.title='PWNED'</script>"
 
 
@@ -513,29 +507,29 @@ tell(seen);
 
 
 PAGES |= {"harmless": of_names([f"job {at}" for at in range(len(DANGEROUS))], "plan.csv", "h"),
-          "dangerous": of_names(DANGEROUS, f"{UNIT}.csv", UNIT)}
+          "dangerous": of_names(DANGEROUS, f"{UNIT}\x1b.csv", f"{UNIT}\x1b")}
 
 
 def test_no_name_becomes_a_part_of_the_page(pages: dict[str, Any]) -> None:
     due, seen, made = pages["harmless"], pages["dangerous"], PAGES["dangerous"].made
-    title = due["titles"][0].removeprefix("plan.csv").replace(" h,", f" {UNIT},")
-    assert seen["titles"] == [f"{UNIT}.csv{title}"] * 3 and seen["focus"] == due["focus"] == "BODY"
+    title = due["titles"][0].removeprefix("plan.csv").replace(" h,", f" {UNIT}\\x1b,")
+    assert seen["titles"] == [f"{UNIT}\\x1b.csv{title}"] * 3 and seen["focus"] == due["focus"] == "BODY"
     assert seen["elements"] == due["elements"], "a name has made an element or an attribute"
-    shown = {"a\u2028b\u2029c": "a\\u2028b\\u2029c", "\u202eright to left": "\\u202eright to left"}
-    assert seen["tips"] == [
-        f"job {shown.get(job, job)}\nmachine saw {DANGEROUS[0]}\nstart {start}\nend {end}"
-        for job, start, end in zip(DANGEROUS, made.starts[:, 0], made.ends[:, 0])]
+    shown = ["\\u202eright to left", *DANGEROUS[1:-2], "a\\u2028b", "p\\udce4rt"]
+    assert seen["tips"] == [f"job {job}\nmachine saw {shown[0]}\nstart {start}\nend {end}"
+                            for job, start, end in zip(shown, made.starts[:, 0], made.ends[:, 0])]
 
 
-def test_the_policy_keeps_other_scripts_and_styles_out(chromium: str, tmp_path: pathlib.Path) -> None:
-    injected = ("<script>document.title = 'PWNED'</script><style>h1 { display: none }</style>"
-                "<img src='data:image/png;base64,x' onerror=\"document.title = 'PWNED'\">")
-    schedule().plot(tmp_path / "chart.html", bound=True, critical=True)
-    script = PEN + "tell([document.title, ...[document.querySelector('h1'), canvas].map(" \
-                   "each => getComputedStyle(each).display)]);"
-    title, heading, chart = looked_at(chromium, scripted(tmp_path / "chart.html", script, injected), tmp_path)
-    assert title == "plan: 3 jobs on 3 machines: makespan 12.5 h, bound 11.5 (dashed), critical path outlined"
-    assert heading == chart == "block", "the page's policy lets a foreign style in, or keeps its own style out"
+PAGES["foreign"] = Page(schedule(), """
+tell([document.title, ...[document.querySelector("h1"), canvas].map(each => getComputedStyle(each).display)]);
+""", {"bound": True, "critical": True}, injected="<script>document.title = 'PWNED'</script><style>h1 { display: none }"
+     "</style><img src='data:image/png;base64,x' onerror=\"document.title = 'PWNED'\">")
+
+
+def test_the_policy_keeps_other_scripts_and_styles_out(tmp_path: pathlib.Path, pages: dict[str, Any]) -> None:
+    assert pages["foreign"] == [
+        "plan: 3 jobs on 3 machines: makespan 12.5 h, bound 11.5 (dashed), critical path outlined", "block", "block"]
+    schedule().plot(tmp_path / "chart.html")
     text = (tmp_path / "chart.html").read_text("utf-8")
     assert "default-src 'none'" in text and "unsafe" not in text and text.count("</script>") == 2
     assert not re.search(r"""(?:src|href)\s*=|url\(|@import|https?:|fetch\(|XMLHttp|import\(""", text)
@@ -630,7 +624,7 @@ A4, A3, UPRIGHT = (842, 595), (1191, 842), (595, 842)
 
 @pytest.mark.seconds(8)
 @pytest.mark.parametrize(("what", "chosen", "sizes"), [
-    ((4, 4), {}, [A4]), ((30, 200), {}, [A4]), ((20, 5, "Auftrag"), {}, [A4]), ((500, 5, "Auftrag"), {}, [A4] * 3),
+    ((30, 200), {}, [A4]), ((500, 5, "Auftrag"), {}, [A4] * 3),
     ((), {"paper": "A3"}, [A3]), ((), {"print": "days"}, [A4] * 6),
     ((), {"listed": "all"}, [A4, UPRIGHT, UPRIGHT, UPRIGHT])])
 def test_what_is_printed(chromium: str, tmp_path: pathlib.Path, what: tuple[Any, ...], chosen: dict[str, str],
@@ -744,10 +738,9 @@ choice.value = "all";
 choice.dispatchEvent(new Event("change"));
 places.open = true;
 places.dispatchEvent(new Event("toggle"));
-const opened = places.querySelectorAll("li").length;
 send("pointermove", PointerEvent, left + 5, TOP + 5);
 draw();
-const seen = {opened, screen: look()};
+const seen = {screen: look()};
 document.body.style.width = "160px";
 seen.lines = all("#lists :is(th, td)", cell => cell.textContent.includes(" ") || textBox(cell)[4]);
 document.body.style.width = "";
@@ -789,7 +782,7 @@ def test_blocks_and_columns_are_apart(pages: dict[str, Any], name: str, margin: 
         assert all(after[0] - before[2] > column for row in whole for before, after in itertools.pairwise(row)), rows
         for cells in zip(*whole):
             assert len({round(cell[cell[5]]) for cell in cells}) == 1, "cells of a column"
-    assert pages[name]["opened"] == 5 and {*pages[name]["lines"]} == {True}, "a word is broken where a list is narrow"
+    assert {*pages[name]["lines"]} == {True}, "a word is broken where a list is narrow"
     assert paper["blocks"][0][0] == 0 and 0.8 < paper["sizes"][-1][0] / size < 0.9
     assert {round(right) for right in paper["sheets"]} == {paper["width"]}, "the charts are as wide as the paper"
 

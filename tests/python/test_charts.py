@@ -1,9 +1,12 @@
 """Pictures of schedules, and what they have in common with pages. Bars are drawn as by pfs-gantt, which
 test_gantt.py tests."""
-import json
+import contextlib
+import locale
+import logging
+import os
 import pathlib
-import re
 import sys
+import warnings
 from typing import Any
 from xml.etree import ElementTree
 
@@ -11,7 +14,6 @@ import numpy as np
 import pfs
 import pytest
 from pfs import _chart, _drawing
-from support import plainly
 from test_chart_pages import LENGTHS, MACHINES, NAMES, ORDER, TIMES, plan
 
 matplotlib = pytest.importorskip("matplotlib")
@@ -48,40 +50,21 @@ def test_the_picture_has_the_names() -> None:
     assert axis.get_title() == f"3 jobs on 3 machines: {lengths}, critical path outlined"
     assert axis.get_xlabel() == "time (h)" and axis.xaxis.get_major_formatter()(25) == "2.5"
     assert named().plot(unit="days").axes[0].get_xlabel() == "time (days)"
-    axis = pfs.Instance(TIMES).schedule([2, 0, 1]).plot().axes[0]
-    assert [label.get_text() for label in axis.get_yticklabels()] == ["0", "1", "2"]
-    assert {"0", "1", "2"} <= {text.get_text() for text in axis.texts}
-    assert axis.get_xlabel() == "time (units of the instance)"
-
-
-# Prints what of the settings of the process is another one after a chart.
-SETTINGS = """
-import json, locale, logging, os, sys, warnings
-import matplotlib
-import pfs
-
-def settings():
-    found = {f"rcParams {name}": repr(value) for name, value in matplotlib.rcParams.items()}
-    found |= {f"level of {name}": logging.getLogger(name).level for name in ("matplotlib", "")}
-    found |= {"backend": matplotlib.get_backend(), "environment": dict(os.environ), "path": list(sys.path)}
-    return found | {"warnings": repr(warnings.filters), "locale": locale.setlocale(locale.LC_ALL), "at": os.getcwd()}
-
-made = pfs.Instance([[3, 2], [2, 5]]).schedule([1, 0])
-before = settings()
-try:
-    made.plot(sys.argv[1], critical=True, bound=True)
-except OSError as error:
-    print(error, file=sys.stderr)
-print(json.dumps({name: [before[name], now] for name, now in settings().items() if before[name] != now}))
-"""
 
 
 @pytest.mark.parametrize("path", ["chart.svg", "chart.png", "chart.pdf", "chart.html", "none/chart.svg"])
-def test_settings_stay_as_they_are(tmp_path: pathlib.Path, path: str) -> None:
-    """In another process: an earlier test may have changed them in this one."""
-    done = plainly.python("-c", SETTINGS, path, cwd=tmp_path)
-    assert done.returncode == 0 and (tmp_path / path).exists() == (path[:4] != "none"), done.stderr
-    assert json.loads(done.stdout) == {}, "settings of the process that a chart has changed"
+def test_settings_stay_as_they_are(tmp_path: pathlib.Path, path: str, caplog: pytest.LogCaptureFixture) -> None:
+    """Also if the chart can't be written. No earlier chart has left these."""
+    def settings() -> list[Any]:
+        return [matplotlib.rcParams.copy(), logging.getLogger("matplotlib").level, logging.getLogger().level,
+                {**os.environ}, [*sys.path], [*warnings.filters], locale.setlocale(locale.LC_ALL), os.getcwd()]
+
+    caplog.set_level(logging.INFO, "matplotlib")
+    with matplotlib.rc_context({"svg.fonttype": "path", "svg.hashsalt": "x", "pdf.fonttype": 3, "font.size": 7}):
+        before = settings()
+        with contextlib.suppress(OSError):
+            a_schedule().plot(tmp_path / path, critical=True, bound=True)
+        assert settings() == before and (tmp_path / path).exists() == (path[:4] != "none")
 
 
 # Names that are shown by escapes: what moves a cursor, ends a line, turns its direction, or isn't a character of XML.
@@ -90,24 +73,13 @@ ESCAPED = {"saw\x1b[2J\x07": "saw\\x1b[2J\\x07", "two\nlines": "two\\nlines", "c
            "p\udce4rt": "p\\udce4rt", "\ufffe": "\\ufffe", "nul\0": "nul\\x00"}
 
 
-@pytest.mark.parametrize("ending", BEGINNINGS)
-def test_names_with_control_characters(tmp_path: pathlib.Path, ending: str) -> None:
-    """Whoever reads a chart sees them; a picture is XML."""
-    names, path = [*ESCAPED, "Z\xfcrich", "plain"], tmp_path / f"chart.{ending}"
-    shop = pfs.Instance([[90] * len(names)] * 2, job_names=[names[0], names[-2]], machine_names=names,
-                        unit="\x1b[1mh", name="pl\udce4n\x1b.csv")
-    path.write_text("the old one")
-    shop.schedule([0, 1]).plot(path)
-    due = [*ESCAPED.values(), "Z\xfcrich", "plain"]
-    if ending == "svg":
-        texts = {text.text for text in ElementTree.parse(path).iter("{http://www.w3.org/2000/svg}text")}
-        assert set(due) <= texts and "time (\\x1b[1mh)" in texts
-    if ending == "html":
-        page = path.read_text("utf-8")
-        found = re.search(r'id="data">(.*?)</script>', page)
-        assert found and json.loads(found[1])["machines"] == due
-        assert json.loads(found[1])["jobs"] == [due[0], due[-2]]
-        assert "<title>pl\\udce4n\\x1b.csv: 2 jobs on 11 machines: makespan 1080 \\x1b[1mh<" in page
+def test_names_with_control_characters(tmp_path: pathlib.Path) -> None:
+    """Whoever looks at a picture sees them; it is XML."""
+    names = [*ESCAPED, "Z\xfcrich"]
+    shop = pfs.Instance([[90] * len(names)], job_names=["\udce4"], machine_names=names, unit="\x1b[1mh")
+    shop.schedule([0]).plot(tmp_path / "chart.svg", title="\x1b")
+    texts = {text.text for text in ElementTree.parse(tmp_path / "chart.svg").iter("{http://www.w3.org/2000/svg}text")}
+    assert {*ESCAPED.values(), "Z\xfcrich", "\\udce4", "time (\\x1b[1mh)", "\\x1b"} <= texts
 
 
 # The frame of a picture
@@ -147,6 +119,10 @@ def test_the_lines_of_a_picture() -> None:
     assert len(key) == 4 and not any(text.get_parse_math() for text in texts) and axis.title._linespacing == 1.3
     assert {(text.get_zorder(), text.get_clip_on()) for text in axis.texts[:-1]} == {(4, True)}
     assert [text.get_size() for text in (axis.xaxis.label, axis.yaxis.label, axis.texts[-1])] == [9, 9, 9]
+    lines = {each.get_gid(): (each.get_zorder(), each.get_clip_on(), each.get_color(), each.get_linewidth(),
+                              each.is_dashed(), [*each.get_xdata()], [*each.get_ydata()]) for each in axis.lines}
+    assert lines == {"beside-bound": (3.5, False, "white", 2.4, False, [720, 720], [0, 1]),
+                     "bound": (3.6, False, "black", 1.2, True, [720, 720], [0, 1])}, "through all rows, over the path"
     axes = axis, *axis.child_axes
     assert [name for each in axes for name, spine in each.spines.items() if spine.get_visible()] == ["bottom"]
     assert [each.yaxis.get_major_ticks()[0].tick1line.get_markersize() for each in axes] == [0, 0]
@@ -199,14 +175,10 @@ def test_jupyter_shows_the_chart(monkeypatch: pytest.MonkeyPatch) -> None:
 
 
 @pytest.mark.parametrize(("words", "kind", "why"), [
-    ({"width": 1}, ValueError, "width must be from 2 to 100 inches, not 1"),
-    ({"width": float("nan")}, ValueError, "width must be from 2 to 100 inches, not nan"),
-    ({"width": "4"}, TypeError, "width must be a number of inches, not '4'"),
-    ({"width": True}, TypeError, "width must be a number of inches, not True"),
-    ({"width": 100.1}, ValueError, "width must be from 2 to 100 inches, not 100.1"),
-    ({"dpi": 19}, ValueError, "dpi must be from 20 to 2,400, not 19"),
-    ({"dpi": 2401}, ValueError, "dpi must be from 20 to 2,400, not 2401"),
-    ({"dpi": 99.5}, TypeError, "dpi must be an integer"),
+    *(({"width": width}, ValueError, f"width must be from 2 to 100 inches, not {width}")
+      for width in (1, 100.1, float("nan"))),
+    *(({"width": width}, TypeError, f"width must be a number of inches, not {width!r}") for width in ("4", True)),
+    *(({"dpi": dpi}, ValueError, f"dpi must be from 20 to 2,400, not {dpi}") for dpi in (19, 2401)),
     ({"title": 3}, TypeError, "title must be True, False or a text, not 3"),
     ({"ax": 3}, TypeError, "ax must be matplotlib axes, not 3")])
 def test_frames_of_pictures_that_are_rejected(tmp_path: pathlib.Path, words: dict[str, Any], kind: type[Exception],
@@ -277,14 +249,9 @@ def test_pictures_without_a_key_and_with_names_that_are_cut_in_it() -> None:
     bars, key, _ = texts_of(plan(), ax=matplotlib.figure.Figure(figsize=(12, 3)).subplots())
     assert key == [] and {name for each in bars.values() for name in each} <= {*NAMES}, "no place without a key"
     names = ["x" * 300, *NAMES[1:]]
-    _, key, figure = texts_of(plan(names), width=4)
+    made = pfs.Instance(LENGTHS, job_names=names, machine_names=[*MACHINES[:2], "oven " * 30]).schedule(ORDER)
+    _, key, figure = texts_of(made, width=4)
+    assert [label.get_text() for label in figure.axes[0].get_yticklabels()] == ["saw", "drill", "oven oven ove\u2026"]
     assert key[0].startswith("1 xxx") and key[0].endswith("x\u2026") and len(key[0]) < 100
     assert [line.split(" ", 1)[1] for line in key[1:]] == [names[job] for job in ORDER[1:]]
     assert max(text.get_window_extent().x1 for text in figure.texts) <= figure.bbox.width
-
-
-def test_names_fit_the_bars_next_to_long_names_of_machines() -> None:
-    made = pfs.Instance(LENGTHS, job_names=["0815-" * 30, *NAMES[1:]], machine_names=[*MACHINES[:2], "oven " * 30])
-    bars, _, figure = texts_of(made.schedule(ORDER))
-    assert figure.axes[0].get_yticklabels()[2].get_text() == ("oven " * 30)[:41] + "\u2026"
-    assert all(text.startswith("1 0815-") and text.endswith("\u2026") for text in bars[0])

@@ -75,24 +75,17 @@ def test_what_another_plan_says_of_its_end(tmp_path: pathlib.Path) -> None:
 ROWS = (("job [min]", "saw", "drill"), ("table", 300, 200), ("chair", 250, 400))
 
 
-def with_options(path: pathlib.Path, *options: Sequence[object], name: str = "pfs", at: int = 1) -> pathlib.Path:
-    """A workbook with a table and a sheet of options, which is the active one if it is the first."""
-    book_of(path, *ROWS)
-    book = openpyxl.load_workbook(path)
-    sheet = book.create_sheet(name, at)
-    for row in options:
-        sheet.append(row)
-    book.active = 0
-    book.save(path)
-    return path
+OPTIONS: list[list[object]] = [
+    ["# each week", 1, 2], ["begin", datetime.datetime(2026, 11, 30, 6)], [], ["--shift", "fri:06:00-12:00"],
+    ["closed", datetime.datetime(2026, 12, 4)], ["take", 2], ["report"]]
 
 
-@pytest.mark.parametrize(("name", "at"), [("pfs", 1), ("PFS", 0)])
-def test_options_on_a_sheet(tmp_path: pathlib.Path, name: str, at: int) -> None:
+@pytest.mark.parametrize("sheets", [{"table": ROWS, "pfs": OPTIONS}, {"PFS": OPTIONS, "table": ROWS}])
+def test_options_on_a_sheet(tmp_path: pathlib.Path, sheets: dict[str, Sequence[Sequence[object]]]) -> None:
+    """Also on the first one, with which the workbook opens."""
     book_of(tmp_path / "plain.xlsx", *ROWS)
-    with_options(tmp_path / "times.xlsx", ["# each week", 1, 2], ["begin", datetime.datetime(2026, 11, 30, 6)], [],
-                 ["--shift", "fri:06:00-12:00"], ["closed", datetime.datetime(2026, 12, 4)], ["take", 2], ["report"],
-                 name=name, at=at)
+    (title, rows), (name, more) = sheets.items()
+    book_of(tmp_path / "times.xlsx", *rows, title=title, **{name: more})
     words = ["--begin", "2026-11-30T06:00", "--shift", "fri:06:00-12:00", "--closed", "2026-12-04", "--take", "2",
              "--report"]
     plain, printed, _ = ended(["plan", "plain.xlsx", *words], tmp_path)
@@ -116,7 +109,7 @@ def test_options_on_a_sheet(tmp_path: pathlib.Path, name: str, at: int) -> None:
     (["shift", "06:00-12:00", "13:00-17:00"], "shift has several values: write a row for each")])
 def test_a_sheet_of_options_names_no_file(tmp_path: pathlib.Path, row: list[object], said: str) -> None:
     """A workbook may come from a stranger."""
-    with_options(tmp_path / "times.xlsx", row)
+    book_of(tmp_path / "times.xlsx", *ROWS, pfs=[row])
     before = sorted(tmp_path.iterdir())
     status, printed, got = ended(["plan", "times.xlsx"], tmp_path)
     assert (status, printed) == (3, "") and got.startswith(f"pfs: times.xlsx, sheet pfs: {said}")
@@ -124,10 +117,7 @@ def test_a_sheet_of_options_names_no_file(tmp_path: pathlib.Path, row: list[obje
 
 
 def test_a_workbook_that_has_only_the_sheet_pfs(tmp_path: pathlib.Path) -> None:
-    book_of(tmp_path / "times.xlsx", *ROWS)
-    book = openpyxl.load_workbook(tmp_path / "times.xlsx")
-    book.active.title = "pfs"
-    book.save(tmp_path / "times.xlsx")
+    book_of(tmp_path / "times.xlsx", *ROWS, title="pfs")
     assert ended(["plan", "times.xlsx"], tmp_path)[::2] == (0, "")
 
 

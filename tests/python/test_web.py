@@ -1,7 +1,6 @@
 """The server of the page for planners, by Flask's client: who may send requests, the responses, limits, and searches.
 tests/python/test_web_server.py starts it, and test_web_page.py looks at the page."""
 import base64
-import binascii
 import copy
 import functools
 import io
@@ -42,7 +41,6 @@ SHOP: dict[str, Any] = {"jobs": ["table", "chair", "shelf", "box"], "machines": 
 ORDER = ["box", "table", "chair", "shelf"]
 DATES = {"begin": "2026-11-30T06:00", "shifts": "06:00-14:00\nfri:06:00-12:00", "days": "mon-fri", "closed": ""}
 PLAN: dict[str, Any] = {"shop": SHOP, "order": ORDER, "held": 0, "calendar": DATES, "title": "Week 49"}
-SCRIPT = "<img src=x onerror=alert(1)>"
 
 
 def client_of(found: searches.Searches) -> FlaskClient:
@@ -113,12 +111,9 @@ STRANGERS = {
 @pytest.mark.parametrize("call", CALLS, ids=lambda call: " ".join(call[:2]))
 def test_a_stranger_computes_reads_and_ends_nothing(who: str, call: tuple[str, str, Any],
                                                     monkeypatch: pytest.MonkeyPatch) -> None:
-    def never(*_: Any) -> None:
-        pytest.fail("the request was answered")
-
     for kind, names in ((searches.Searches, ("add", "told", "end")), (apart.Apart, ("__call__",))):
         for name in names:
-            monkeypatch.setattr(kind, name, never)
+            monkeypatch.setattr(kind, name, mock.Mock(side_effect=AssertionError))
     (headers, due), (method, path, body) = STRANGERS[who], call
     got = asked(client_of(searches.Searches(1)), path, body, method, **headers)
     assert (got.status_code, got.json) == (due[0], {"error": due[1]})
@@ -187,10 +182,7 @@ def test_another_form_is_refused(path: str, more: Any, client: FlaskClient) -> N
 
 AT = {"at": "2026-12-01T10:00"}
 TELLS: list[tuple[str, Any, str]] = [
-    ("plan", {"shop": {**SHOP, "times": [[1, 2, 3], [1, 2], [1, 2, 3], [1, 2, 3]]}}, "times"),
-    ("plan", {"shop": {**SHOP, "times": [[-1, 2, 3]] * 4}}, "times"),
     ("plan", {"shop": {**SHOP, "jobs": ["a", "a", "b", "c"]}}, "'a' occurs twice"),
-    ("plan", {"calendar": {**DATES, "begin": "2026-02-30T06:00"}}, "2026-02-30"),
     ("plan", {"calendar": {**DATES, "shifts": "6 to 14"}}, "is not a shift"),
     ("plan", {"calendar": {**DATES, "begin": ""}}, '"Shifts" needs "Work begins"'),
     ("plan", {"shop": {**SHOP, "unit": ""}}, "the times have no unit"),
@@ -225,13 +217,12 @@ def test_other_kinds_of_requests_are_refused(client: FlaskClient) -> None:
             (b" " * 8_388_609, "application/json", 413, "The request is too large.")):
         got = client.post("/api/plan", data=sent, content_type=kind, headers=own)
         assert got.status_code == status and got.json and got.json["error"].endswith(said)
-    assert client.get("/api/plan", headers=own).status_code == 405
+    assert [client.get(f"/api/{path}", headers=own).status_code for path in ("plan", "search")] == [405, 405]
 
 
 @pytest.mark.parametrize(("error", "status", "said"), [
-    (MemoryError(), 503, "the server has too little memory for this"), (ValueError("a"), 422, "a"),
-    (KeyError("a"), 500, "the server failed; its log says why"), (ImportError("a"), 422, "a"),
-    (RecursionError(), 400, str(plans.OTHER_FORM)), (binascii.Error(), 400, str(plans.OTHER_FORM))])
+    (MemoryError(), 503, "the server has too little memory for this"), (ImportError("a"), 422, "a"),
+    (KeyError("a"), 500, "the server failed; its log says why")])
 def test_what_is_said_of_errors(error: Exception, status: int, said: str, caplog: pytest.LogCaptureFixture) -> None:
     assert app.failed(error) == ({"error": said}, status)
     assert ("a request failed\nKeyError: 'a'\n" in caplog.text) == (status == 500)
@@ -308,11 +299,6 @@ def test_faults_name_their_cells_and_controls(client: FlaskClient) -> None:
     assert set(places) == {(3, 2), (4, 3), (5, 3), (5, 4), (6, 1)}
     assert "the tick for sums, above the table" in places[3, 2] and "Decimal sign, above the table" in places[4, 3]
     assert "`" not in "".join(places.values()) and got["suggested"] == ["saw", "drill"] and "shop" not in got
-    rows = [row for row in got["rows"] if row[0] != 5]
-    rows[2][1][2] = "1"
-    options = {"delimiter": ";", "machines": ["saw", "drill"]}
-    mended = answer(client, "/api/read", {"rows": rows[:3], "options": options})
-    assert mended["faults"] == [] and mended["shop"]["times"] == [[1, 2]], "rows that are left out keep other lines"
 
 
 def workbook(sheets: dict[str, list[list[Any]]]) -> bytes:
@@ -347,9 +333,8 @@ def test_texts_of_a_workbook_need_a_decimal_sign(client: FlaskClient) -> None:
 
 
 BROKEN = {
-    "an archive of nothing": b"PK\x03\x04" + bytes(100), "another archive": b"PK\x05\x06" + bytes(18),
-    "an old workbook": b"\xd0\xcf\x11\xe0" + bytes(500), "nothing": b"", "zeros": bytes(1_000),
-    "UTF-16": b"\xff\xfe\x00",
+    "an archive of nothing": b"PK\x03\x04" + bytes(100), "an old workbook": b"\xd0\xcf\x11\xe0" + bytes(500),
+    "nothing": b"", "zeros": bytes(1_000), "half a letter of UTF-16": b"\xff\xfe\x00",
     "a picture": b"\x89PNG\r\n\x1a\n" + random.Random(1).randbytes(2_000), "a quote": b'"' * 4_001,
     "a cut workbook": workbook({"a": [["job", "saw"], ["b", 1]]})[:-40],
 }
@@ -362,27 +347,25 @@ def test_a_broken_file_is_refused_with_words(client: FlaskClient, what: str) -> 
 
 
 def test_a_bomb_is_refused_within_seconds(client: FlaskClient) -> None:
-    """An archive of 300 MB of blanks, a sheet of very many rows, and a name that took hours to look at."""
+    """An archive of 300 MB of blanks, and a name that took hours to look at."""
     out = io.BytesIO()
     with zipfile.ZipFile(out, "w", zipfile.ZIP_DEFLATED) as archive:
         archive.writestr("xl/worksheets/sheet1.xml", b" " * 300 * 2**20)
     begun = time.monotonic()
-    for data in (out.getvalue(), b"job;saw\n" + b"a;1\n" * 10_001, b"workorders" * 40 + b"x;saw\na;1\n"):
+    for data in (out.getvalue(), b"workorders" * 40 + b"x;saw\na;1\n"):
         got = asked(client, "/api/read", {"content": content(data), "name": "x"})
         assert got.status_code in (200, 422)
     assert time.monotonic() - begun < 20
 
 
-def test_a_table_has_a_greatest_number_of_rows(client: FlaskClient) -> None:
+def test_so_many_rows_are_read_and_so_many_faults_listed(client: FlaskClient) -> None:
+    """The name of each row but the first one occurs twice."""
     head, row = b"job;saw\n", b"a;1\n"
-    status, error = refused(client, "/api/read", {"content": content(head + row * _tables.MOST_ROWS)})
+    status, error = refused(client, "/api/read", {"content": content(head + row * 10_000)})
     assert (status, error) == (422, "the table has more than 10,000 rows")
-    assert len(read(client, head + row * (_tables.MOST_ROWS - 1))["rows"]) == _tables.MOST_ROWS
-
-
-def test_so_many_faults_are_listed(client: FlaskClient) -> None:
-    got = read(client, b"job;saw\n" + b"a;1\n" * 2_002)
-    assert (len(got["faults"]), got["more"], got["faults"][-1]["line"]) == (2_000, 1, 2_002)
+    got = read(client, head + row * 9_999)
+    assert (len(got["rows"]), len(got["faults"]), got["more"]) == (10_000, 2_000, 7_998)
+    assert got["faults"][-1]["line"] == 2_002
 
 
 def test_fields_of_a_request() -> None:
@@ -508,20 +491,8 @@ def test_how_far_above_the_bound_a_plan_is(times: Any, told: Any, client: FlaskC
     assert (got["makespan"], got["bound"], got["isOptimal"], got["above"]) == told
 
 
-def test_a_name_is_no_script_in_what_is_made(client: FlaskClient) -> None:
-    shop = {**SHOP, "jobs": [SCRIPT, "</script><script>alert(1)</script>", "=1+1", "c"]}
-    plan = {**PLAN, "shop": shop, "order": shop["jobs"], "title": SCRIPT}
-    assert all(text not in answer(client, "/api/plan", plan)["chart"] for text in (SCRIPT, "<script>alert"))
-    assert b";=1" not in asked(client, "/api/file", {**plan, "kind": "csv"}).data
-    shop["jobs"] = ["a\nb", *ORDER[:3]]
-    got = asked(client, "/api/file", {**plan, "order": shop["jobs"], "kind": "txt"})
-    assert got.data == b"a\\nb\nbox\ntable\nchair\n", "each job has a line"
-    got = asked(client, "/api/read", {"rows": [[1, ["job", SCRIPT]], [2, [SCRIPT, "x"]]]})
-    assert got.mimetype == "application/json"
-
-
 BEGINS = {"xlsx": b"PK", "zip": b"PK", "pdf": b"%PDF", "csv": b"\xef\xbb\xbfjob;machine", "html": b"<!DOCTYPE html>",
-          "txt": b"box\ntable\nchair\nshelf\n"}
+          "txt": b"box\nta\\nble\nchair\nshelf\n"}
 
 
 def test_the_language_of_a_plan_is_no_file(client: FlaskClient) -> None:
@@ -533,10 +504,12 @@ def test_the_language_of_a_plan_is_no_file(client: FlaskClient) -> None:
 
 @pytest.mark.parametrize("kind", BEGINS)
 def test_a_plan_is_downloaded_under_a_name_that_is_no_path(client: FlaskClient, kind: str) -> None:
+    """Each job has a line in its order."""
     if kind == "pdf":
         require_module("matplotlib")
-    machines = ["../../etc/passwd", "C:\\saw", "..\\x"]
-    got = asked(client, "/api/file", {**PLAN, "shop": {**SHOP, "machines": machines}, "kind": kind, "title": "../x"})
+    shop = {**SHOP, "jobs": ["ta\nble", "chair", "shelf", "box"], "machines": ["../../etc/passwd", "C:\\saw", "..\\x"]}
+    got = asked(client, "/api/file", {**PLAN, "shop": shop, "order": ["box", "ta\nble", "chair", "shelf"], "kind": kind,
+                                      "title": "../x"})
     assert got.data.startswith(BEGINS[kind])
     assert got.headers["Content-Disposition"] == f"attachment; filename=plan.{kind}"
     if kind == "zip":
@@ -587,11 +560,13 @@ def test_a_search_finds_what_the_package_finds(client: FlaskClient) -> None:
 
 
 @pytest.mark.parametrize(("held", "options", "said"), [
-    (1, {"seed": 2**53, "seconds": 10**6}, "iterated-greedy 9007199254740992 [3, 0, 1, 2] [3] 600 None"),
+    (3, {"order": ["box", "chair", "gone", "shelf"], "seed": 2**53, "seconds": 10**6},
+     "iterated-greedy 9007199254740992 [3, 1, 2, 0] [3, 1, 2] 600 None"),
     (None, {}, "iterated-greedy 0 [3, 0, 1, 2] [] 0 1.0")])
 def test_a_proof_is_tried_where_no_job_is_held(
-        client: FlaskClient, held: int | None, options: dict[str, int], said: str, monkeypatch: pytest.MonkeyPatch,
+        client: FlaskClient, held: int | None, options: dict[str, Any], said: str, monkeypatch: pytest.MonkeyPatch,
         caplog: pytest.LogCaptureFixture) -> None:
+    """New jobs come after those that are held. Why a search has failed is told."""
     optimum = mock.Mock(return_value=SimpleNamespace(optimal=False))
     monkeypatch.setattr(pfs.Instance, "optimum", optimum)
     monkeypatch.setattr(pfs.Instance, "solve", lambda _, **given: int(" ".join(
@@ -599,66 +574,45 @@ def test_a_proof_is_tried_where_no_job_is_held(
     caplog.set_level("INFO")
     name = answer(client, "/api/search", {**PLAN, "held": held, **options})["search"]
     wait_until(lambda: "search: 4 jobs, 3 machines, 0 rounds\n" in caplog.text, "the log names the search")
-    got = asked(client, f"/api/search/{name}", method="GET").json
-    assert got and got["error"] == f"invalid literal for int() with base 10: '{said}'"
+    got = asked(client, f"/api/search/{name}", method="GET")
+    assert (got.status_code, got.json) == (422, {"error": f"invalid literal for int() with base 10: '{said}'"})
     assert [(*each.args, each.kwargs["start"]) for each in optimum.call_args_list] == [(0.1, [3, 0, 1, 2])] * (not held)
 
 
-def test_held_jobs_keep_their_places_and_new_ones_come_after_them(client: FlaskClient) -> None:
-    body = {**LONG, "seconds": 1, "order": ["J9", "J3", "gone", "J5"], "held": 2}
-    found = waited(client, answer(client, "/api/search", body)["search"])
-    assert found["order"][:2] == ["J9", "J3"] and len(set(found["order"])) == 30
-
-
-def test_a_search_is_followed_and_ended_with_its_best_order(client: FlaskClient) -> None:
-    name = answer(client, "/api/search", LONG)["search"]
-    told = waited(client, name, lambda told: told["rounds"] > 0)
-    assert told["state"] == "searching" and "order" not in told and told["makespan"].endswith(" h")
-    begun = time.monotonic()
-    answer(client, f"/api/search/{name}", method="DELETE")
-    found = waited(client, name)
-    assert time.monotonic() - begun < 4 and len(found["order"]) == 30 and found["above"] > 0
-
-
-def test_a_search_that_fails_says_why(client: FlaskClient, monkeypatch: pytest.MonkeyPatch) -> None:
-    def fails(*_: Any, **__: Any) -> None:
-        raise ValueError("no such search")
-
-    monkeypatch.setattr(pfs.Instance, "solve", fails)
-    name = answer(client, "/api/search", LONG)["search"]
-    wait_until(lambda: asked(client, f"/api/search/{name}", method="GET").status_code != 200, "it has failed")
-    assert refused(client, "/api/plan", {})[0] == 400
-    got = asked(client, f"/api/search/{name}", method="GET")
-    assert got.status_code == 422 and got.json and got.json["error"] == "no such search"
-
-
 def test_searches_wait_in_a_queue_and_are_limited(monkeypatch: pytest.MonkeyPatch) -> None:
-    monkeypatch.setattr(searches, "MOST_OF_ONE", 3)
-    found = searches.Searches(1)
+    """Two run at once. One that is ended has its best order, and the next one begins."""
+    monkeypatch.setattr(searches, "MOST_OF_ONE", 4)
+    found = searches.Searches(2)
     client = client_of(found)
     try:
-        names = [answer(client, "/api/search", LONG)["search"] for _ in range(3)]
-        assert [answer(client, f"/api/search/{name}", method="GET")["place"] for name in names] == [0, 1, 2]
-        waited(client, names[0], lambda told: told["rounds"] > 0)
-        assert [run.state for run in found.runs.values()] == ["searching", "waiting", "waiting"]
-        told = answer(client, f"/api/search/{names[2]}", method="GET")
+        names = [answer(client, "/api/search", LONG)["search"] for _ in range(4)]
+        assert len({*names}) == 4 and all(re.fullmatch(r"[\w-]{24}", name) for name in names), "names can't be guessed"
+        assert [answer(client, f"/api/search/{name}", method="GET")["place"] for name in names] == [0, 0, 1, 2]
+        for name in names[:2]:
+            told = waited(client, name, lambda told: told["rounds"] > 0)
+            assert "order" not in told and told["makespan"].endswith(" h")
+        assert [run.state for run in found.runs.values()] == ["searching"] * 2 + ["waiting"] * 2
+        told = answer(client, f"/api/search/{names[3]}", method="GET")
         assert told == {"state": "waiting", "place": 2, "rounds": 0, "limit": 600, "seconds": 0.0, "makespan": "",
                         "bound": told["bound"]} and told["bound"].endswith(" h")
         assert refused(client, "/api/search", LONG) == (
-            429, "3 searches of this address run or wait: end one of them")
+            429, "4 searches of this address run or wait: end one of them")
         monkeypatch.setattr(searches, "MOST_OF_ONE", 99)
         names += [answer(client, "/api/search", LONG)["search"] for _ in range(14)]
         assert refused(client, "/api/search", LONG) == (503, "too many searches wait: try again in a minute")
-        answer(client, f"/api/search/{names[1]}", method="DELETE")
-        got = asked(client, f"/api/search/{names[1]}", method="GET")
+        answer(client, f"/api/search/{names[2]}", method="DELETE")
+        got = asked(client, f"/api/search/{names[2]}", method="GET")
         assert (got.status_code, got.json) == (404, {"error": "this search is over"})
         last = found.runs[names[-1]]
         for seconds in (19.5, 1):
             last.asked -= seconds
             assert last.is_left() == (seconds == 1), "after 20 seconds"
-        assert answer(client, f"/api/search/{names[2]}", method="GET")["place"] == 1
+        assert answer(client, f"/api/search/{names[3]}", method="GET")["place"] == 1
+        begun = time.monotonic()
         answer(client, f"/api/search/{names[0]}", method="DELETE")
-        waited(client, names[2], lambda told: told["state"] == "searching")
+        told = waited(client, names[0])
+        assert time.monotonic() - begun < 4 and len(told["order"]) == 30 and told["above"] > 0
+        waited(client, names[3], lambda told: told["state"] == "searching")
     finally:
         found.end_all()
     assert all(run.is_set() for run in found.runs.values())
@@ -670,17 +624,5 @@ def test_a_search_ends_when_nobody_asks(monkeypatch: pytest.MonkeyPatch) -> None
     client = client_of(found)
     names = [answer(client, "/api/search", LONG)["search"] for _ in range(2)]
     monkeypatch.setattr(searches, "FORGET", 0.3)
-    end = time.monotonic() + 5
-    while found.runs and time.monotonic() < end:
-        time.sleep(0.05)
-        answer(client, "/api/search/none", method="DELETE")
-    assert found.runs == {}
+    wait_until(lambda: not (answer(client, "/api/search/none", method="DELETE") or found.runs), "all are forgotten", 5)
     assert {asked(client, f"/api/search/{name}", method="GET").status_code for name in names} == {404}
-
-
-def test_nobody_reaches_the_search_of_another(client: FlaskClient) -> None:
-    """Its name can't be guessed, and nothing lists names."""
-    names = {answer(client, "/api/search", {"shop": SHOP, "seconds": 0})["search"] for _ in range(5)}
-    assert len(names) == 5 and all(re.fullmatch(r"[\w-]{24}", name) for name in names)
-    statuses = {path: asked(client, path, method="GET").status_code for path in ("/api/search", "/api/search/0")}
-    assert statuses == {"/api/search": 405, "/api/search/0": 404}

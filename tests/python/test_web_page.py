@@ -1,8 +1,6 @@
 """The page for planners in a browser: a week of a planner, by a pointer and by the keyboard alone."""
 import base64
-import contextlib
 import difflib
-import io
 import json
 import pathlib
 import re
@@ -11,24 +9,24 @@ from typing import Any
 
 import pytest
 from support.needs import require_module, tool
-from support.tools import wait_until
-from test_web_server import SHOP, Server, served
+from test_web import LONG, workbook
+from test_web_server import Server, served
 
-for module in ("flask", "waitress", "selenium", "openpyxl"):
-    require_module(module)
+require_module("selenium")
 from selenium import webdriver
 from selenium.webdriver.chrome.service import Service
 from selenium.webdriver.common.by import By
 from selenium.webdriver.common.keys import Keys
 from selenium.webdriver.remote.webelement import WebElement
-from selenium.webdriver.support.ui import Select
+from selenium.webdriver.support.ui import Select, WebDriverWait
 
 pytestmark = [pytest.mark.seconds(40), pytest.mark.xdist_group("page")]
 SCRIPT = "<img src=x onerror=\"document.title='run'\">"
 # Faults as planners make them, and letters that aren't in UTF-8.
-WEEK: list[list[Any]] = [
+BOOK = workbook({"KW 49": [
     ["Plan", "Stand 27.11."], ["Auftrag", "Menge", "S\u00e4ge [h]", "Bohren [h]", "Lack [h]"], ["Tisch", 4, 3, 2.5, 4],
-    ["Stuhl", 1, 2, "n/a", 1.5], ["Regal", 2, 4, 1], ["Kiste", 3, 1, "1.500", 6], ["Summe", None, 10, 5, 11.5]]
+    ["Stuhl", 1, 2, "n/a", 1.5], ["Regal", 2, 4, 1], ["Kiste", 3, 1, "1.500", 6], ["Summe", None, 10, 5, 11.5]],
+    "Lager": [["nichts"]]})
 LADEN = "Auftrag;S\u00e4ge;Bohren\nT\u00fcr;1,25;2\nTor;3;1,5\n"
 
 
@@ -78,11 +76,7 @@ class Page:
         element.send_keys(text, Keys.TAB)
 
     def wait(self, has_come: Callable[[], Any], what: str = "the page shows it") -> None:
-        def without_faults() -> bool:
-            with contextlib.suppress(Exception):
-                return bool(has_come())
-            return False
-        wait_until(without_faults, what, 20)
+        WebDriverWait(self.browser, 20, 0.05, [Exception]).until(lambda _: has_come(), what)
 
     def drop(self, name: str, content: bytes) -> None:
         """Choose a file."""
@@ -215,8 +209,6 @@ class Play:
             "twice": lambda selector: run(f"const one = {place}; one.click(); one.click()", selector),
             "set": lambda *given: run(f"const one = {place}; one.value = arguments[1]; "
                                       "one.dispatchEvent(new Event('change', {bubbles: true}))", *given),
-            "fill": lambda: run("document.querySelectorAll('[placeholder]').forEach(each => { each.value = "
-                                "each.placeholder; })"),
             "write": lambda key, text: page.write(page.key(key), text),
             "type": lambda key, text: page.key(key).send_keys(Keys.CONTROL, "a", Keys.NULL, text),
             "drop": self.drop,
@@ -281,23 +273,12 @@ class Play:
             assert " ".join(self.step(step)) == due, step
 
 
-def workbook() -> bytes:
-    import openpyxl
-    book, out = openpyxl.Workbook(), io.BytesIO()
-    book.active.title = "KW 49"
-    for row in WEEK:
-        book.active.append(row)
-    book.create_sheet("Lager").append(["nichts"])
-    book.save(out)
-    return out.getvalue()
-
-
 def test_each_step_in_german(page: Page) -> None:
     """What the page asks and shows after each step is as a person wrote it."""
     script = pathlib.Path(__file__).with_name("page_in_german.txt").read_text("utf-8")
     watch = page.browser.execute_cdp_cmd("Page.addScriptToEvaluateOnNewDocument", {"source": WATCH})
     try:
-        Play(page, {"woche.xlsx": workbook(), "laden.csv": LADEN.encode("cp1252")}).play(script)
+        Play(page, {"woche.xlsx": BOOK, "laden.csv": LADEN.encode("cp1252")}).play(script)
     finally:
         page.browser.execute_cdp_cmd("Page.removeScriptToEvaluateOnNewDocument", watch)
     assert [" 422 " in each for each in page.logged()] == [True] * 3, "the plans without a beginning"
@@ -373,13 +354,12 @@ const faults = [], all = selector => [...document.querySelectorAll(selector)].fi
 const check = (isTrue, what, each) => isTrue || faults.push([what, each.tagName, each.id, each.textContent]);
 const style = (each, name) => getComputedStyle(each)[name], box = each => each.getBoundingClientRect();
 const body = document.body, room = document.documentElement.clientWidth;
-const dark = matchMedia("(prefers-color-scheme: dark)");
 const over = (text, under) => {
   const [red, green, blue, part = 1] = text.match(/[\d.]+/g).map(Number);
   return [red, green, blue].map((each, at) => part * each + (1 - part) * under[at]);
 };
-const ground = (each, last = Array(3).fill(dark.matches ? 18 : 255)) => each
-  ? over(style(each, "backgroundColor"), ground(each.parentElement, last)) : last;
+const last = Array(3).fill(matchMedia("(prefers-color-scheme: dark)").matches ? 18 : 255);
+const ground = each => each ? over(style(each, "backgroundColor"), ground(each.parentElement)) : last;
 const light = colour => colour.map(each => each / 255).reduce((sum, each, at) => sum + [.2126, .7152, .0722][at]
   * (each < .04 ? each / 12.92 : ((each + .055) / 1.055) ** 2.4), .05);
 for (const each of all("body *")) {
@@ -394,26 +374,26 @@ for (const row of all("header, section div:not(.list), #options"))
     check(!next || (isBelow ? next.top - own.bottom : next.left - own.right) >= 7, "too close", each);
     check(!next || isBelow || Math.abs(own.top + own.bottom - next.top - next.bottom) < 20, "not in line", each);
   });
-const most = Math.min(room, 1230);
-// What is seen by these names: its width or height, from the least to the most.
-for (const [selector, side, least, greatest] of [
-    ["body", "width", most - 20, most], ["h1, h2, h3", "height", 20, 30],
-    [".list tr[aria-rowindex], .list thead tr", "height", 32, 32],
+const most = Math.min(room, 1230), middle = (room - box(body).width) / 2;
+// What is seen by these names: where it is, its size or its style, from the least to the most.
+for (const [selector, name, least, greatest = least] of [
+    ["body", "width", most - 20, most], ["body", "left", middle - 1, middle + 1], ["#language", "left", room / 2, room],
+    ["h1, h2, h3", "height", 20, 30], [".list tr[aria-rowindex], .list thead tr", "height", 32],
     [".list, #faults", "height", 0, 361], ["iframe", "height", 400, 500],
     ["section > *:not(table, h3)", "width", .9 * most - 27, most],
     ["#order table", "width", .98 * all("#order")[0]?.clientWidth || 0, 5000],
     ["#table td:first-of-type input", "width", 150, 200], ["#table td:not(:first-of-type) input", "width", 90, 130],
-    ["[type=number]", "width", 50, 80]])
-  for (const each of all(selector)) check(box(each)[side] >= least && box(each)[side] <= greatest, side, each);
-for (const [selector, name, due] of [
-    ["#plan, .best td", "fontWeight", "600"], ["#table .off input", "opacity", "0.5"],
-    [".number", "textAlign", "right"], ["td:not(.number), #faults button", "textAlign", "left"],
-    [".list td", "textOverflow", "ellipsis"],
+    ["[type=number]", "width", 50, 80], ["#plan, .best td", "fontWeight", "600"],
+    ["#table .off input", "opacity", "0.5"], [".number", "textAlign", "right"],
+    ["td:not(.number), #faults button", "textAlign", "left"], [".list td", "textOverflow", "ellipsis"],
     ["#table [type=text]", "borderTopStyle", "none"], [".wrong", "outlineStyle", "solid"],
     ["#drop", "borderTopStyle", "dashed"], ["#message", "whiteSpace", "pre-wrap"], ["h2", "borderBottomStyle", "solid"],
     ["td, th", "borderLeftStyle", "solid"], ["body, input, select, button, textarea", "fontSize", "15px"],
     ["input, select, button, textarea", "fontFamily", style(body, "fontFamily")]])
-  for (const each of all(selector)) check(style(each, name) === due, `${name} ${style(each, name)}`, each);
+  for (const each of all(selector)) {
+    const found = box(each)[name] ?? style(each, name);
+    check(found >= least && found <= greatest, `${name} ${found}`, each);
+  }
 for (const each of all(".held, .moved, .wrong")) check(`${ground(each)}` !== `${ground(body)}`, "not marked", each);
 for (const each of all(".list thead th")) check(!style(each, "backgroundColor").includes("a"), "is seen through", each);
 for (const each of all("#order .name")) for (const cell of each.parentElement.cells)
@@ -425,8 +405,6 @@ for (const each of all(".list thead th")) {
   check(Math.abs(box(each).top - box(each.closest(".list")).top) < 2, "scrolled away", each);
 }
 scrollTo(0, 0);
-check(Math.abs(box(body).left + box(body).right - room) < 2, "not in the middle", body);
-for (const each of all("#language")) check(box(each).left > room / 2, "at the left", each);
 for (const each of all("#order .start")) check(room > 700, "not needed on a phone", each);
 return faults;"""
 
@@ -441,13 +419,14 @@ def test_nothing_is_hard_to_read(wide: int, colours: str, page: Page) -> None:
     try:
         page.open("de")
         assert run(LOOK) == []
-        page.drop("woche.xlsx", workbook())
+        page.drop("woche.xlsx", BOOK)
         page.wait(lambda: page.one("#suggest").is_displayed())
         page.click("#suggest")
         page.wait(lambda: page.all(".off"))
         run("say('one\\ntwo')")
         assert run(LOOK) == []
-        page.paste(TABLE)
+        jobs = (f"J{at};{at * 7 % 50 + 1};{at * 11 % 50 + 1}\n" for at in range(1, 13))
+        page.paste("job [min];saw;drill\n" + "".join(jobs))
         page.wait(lambda: "12 Auf" in page.text("#read"))
         for step, seen in (("doc.order = [...read.shop.jobs]; evaluate()", ".name"), ("byId('keep').click()", ".best"),
                            ("move(5, 0, 'J6:up')", ".moved")):
@@ -463,24 +442,20 @@ def test_nothing_is_hard_to_read(wide: int, colours: str, page: Page) -> None:
 def test_a_plan_is_searched_drawn_and_downloaded(page: Page) -> None:
     """By the server. No name runs as a script."""
     page.open()
-    jobs = [SCRIPT, *SHOP["jobs"][1:]]
-    rows = [["job [min]", *SHOP["machines"]], *([job, *map(str, times)] for job, times in zip(jobs, SHOP["times"]))]
+    shop = LONG["shop"]
+    jobs = [SCRIPT, *shop["jobs"][1:]]
+    rows = [["job [min]", *shop["machines"]], *([job, *map(str, times)] for job, times in zip(jobs, shop["times"]))]
     page.paste("".join(";".join(row) + "\n" for row in rows))
     page.wait(lambda: "30 jobs" in page.text("#read"))
     seconds = Select(page.one("#seconds"))
     assert [each.get_attribute("value") for each in seconds.options] == ["2", "10", "60", "600"]
     seconds.select_by_value("600")
     page.browser.execute_script("arguments[0].value = '2026-11-30T06:00'", page.one("#begin"))
-    for held in (0, 1):
-        page.click("#plan")
-        page.wait(lambda: re.search(r"so far, no order is below .+; 5\d\d s left$", page.text("#progress")))
-        page.click("#end")
-        page.wait(lambda: page.one("#plan").is_enabled() and len(page.order()) > 10)
-        assert sorted(page.browser.execute_script("return doc.order")) == sorted(jobs)
-        if not held:
-            first = page.order()[4]
-            page.press(f"{first}:first")
-        page.wait(lambda: page.order()[0] == first and len(page.all("#order tr.held")) == 1)
+    page.click("#plan")
+    page.wait(lambda: re.search(r"so far, no order is below .+; 5\d\d s left$", page.text("#progress")))
+    page.click("#end")
+    page.wait(lambda: page.one("#plan").is_enabled() and len(page.order()) > 10)
+    assert sorted(page.browser.execute_script("return doc.order")) == sorted(jobs)
     page.browser.switch_to.frame(page.one("#chart"))
     assert page.one("canvas").size["width"] > 300, "the chart has its script and its style"
     page.browser.switch_to.default_content()
@@ -496,38 +471,35 @@ def test_a_plan_is_searched_drawn_and_downloaded(page: Page) -> None:
     assert page.logged() == [] and page.browser.title == "Plan a flow shop", "no script of a name has run"
 
 
-TABLE = "job [min];saw;drill\n" + "".join(f"J{at};{at * 7 % 50 + 1};{at * 11 % 50 + 1}\n" for at in range(1, 13))
-
-
 def test_by_the_keyboard_alone(page: Page) -> None:
     """From a pasted table to a changed order, only by Tab, Enter, blanks and letters."""
     page.open()
-    page.paste(TABLE)
-    page.wait(lambda: "12 jobs" in page.text("#read"))
+    page.paste("job [min];saw;drill\na;1;2\nb;3;4\nc;5;6\nd;2;2\n")
+    page.wait(lambda: "4 jobs" in page.text("#read"))
 
-    def active() -> WebElement:
-        return page.browser.switch_to.active_element
+    def press(*keys: str) -> str:
+        """Presses keys, and returns what has the focus then."""
+        webdriver.ActionChains(page.browser).send_keys(*keys).perform()
+        return str(page.browser.execute_script("const own = document.activeElement; return own.dataset.key ?? own.id"))
 
-    def tab_to(test: Callable[[WebElement], Any]) -> WebElement:
-        for _ in range(400):
-            webdriver.ActionChains(page.browser).send_keys(Keys.TAB).perform()
-            if test(active()):
-                return active()
-        pytest.fail("the focus doesn't come there")
+    def tab_to(end: str) -> None:
+        assert any(press(Keys.TAB).endswith(end) for _ in range(100)), "the focus doesn't come there"
 
-    tab_to(lambda each: each.get_attribute("data-key") == "3,2")
+    tab_to("3,2")
     # Faster than the server reads what is written.
-    webdriver.ActionChains(page.browser).send_keys("71", Keys.TAB, "73", Keys.TAB, Keys.TAB, "K3", Keys.ENTER).perform()
-    page.wait(lambda: active().get_attribute("data-key") == "4,1" and page.browser.execute_script(
+    press("71", Keys.TAB, "73", Keys.TAB, Keys.TAB, "K3", Keys.ENTER)
+    page.wait(lambda: press() == "4,1" and page.browser.execute_script(
         "return read.shop.times[1].join() + read.shop.jobs[2]") == "71,73K3")
-    tab_to(lambda each: each.get_attribute("id") == "plan").send_keys(Keys.ENTER)
-    page.wait(lambda: len(page.order()) == 12)
+    tab_to("plan")
+    press(Keys.ENTER)
+    page.wait(lambda: len(page.order()) == 4)
     own = page.order()[3]
-    tab_to(lambda each: each.get_attribute("data-key") == f"{own}:up").send_keys(Keys.ENTER)
-    page.wait(lambda: page.order()[2] == own)
-    active().send_keys(Keys.ENTER)
-    page.wait(lambda: page.order()[1] == own)
-    tab_to(lambda each: str(each.get_attribute("data-key")).endswith(":hold")).send_keys(" ")
+    tab_to(f"{own}:up")
+    for place in (2, 1):
+        press(Keys.ENTER)
+        page.wait(lambda: page.order()[place] == own)
+    tab_to(":hold")
+    press(" ")
     page.wait(lambda: page.all("#order tr.held"))
     assert page.logged() == []
 
@@ -540,7 +512,6 @@ def test_the_page_has_the_language_of_the_browser(page: Page) -> None:
         page.browser.execute_cdp_cmd("Network.setUserAgentOverride", {"userAgent": agent, "acceptLanguage": language})
         page.browser.execute_script("localStorage.removeItem('language')")
         page.browser.refresh()
-        page.wait(lambda: (page.one("html").get_attribute("lang"), page.one("#language").get_property("value"))
-                  == (due, due))
+        page.wait(lambda: page.one(f"html[lang={due}] #language").get_property("value") == due)
     Select(page.one("#language")).select_by_value("de")
     page.wait(lambda: page.text("h1") == "Flie\u00dffertigung planen")

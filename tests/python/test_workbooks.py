@@ -22,10 +22,14 @@ openpyxl = pytest.importorskip("openpyxl")
 pytestmark = pytest.mark.xdist_group("office")
 
 
-def book_of(path: pathlib.Path, *rows: Sequence[object]) -> pathlib.Path:
+def book_of(path: pathlib.Path, *rows: Sequence[object], title: str = "Sheet",
+            **more: Sequence[Sequence[object]]) -> pathlib.Path:
+    """A workbook with these rows on its first sheet, and more sheets with theirs."""
     book = openpyxl.Workbook()
-    for row in rows:
-        book.active.append(row)
+    book.active.title = title
+    for name, sheet in ((title, rows), *more.items()):
+        for row in sheet:
+            (book[name] if name in book.sheetnames else book.create_sheet(name)).append(row)
     book.save(path)
     return path
 
@@ -106,17 +110,11 @@ def test_all_sheets_of_an_audit_have_the_limits_of_workbooks(tmp_path: pathlib.P
                                                              monkeypatch: pytest.MonkeyPatch) -> None:
     """A sheet that can't be read isn't left out."""
     shop = pfs.Instance([[3, 2], [2, 5], [4, 1]], name="small")
-    path = book_of(tmp_path / "a.xlsx", ("instance", "makespan", "order"), ("small", 10, "2 1 3"))
-    book = openpyxl.load_workbook(path)
-    book.create_sheet("more").append(("instance", "makespan", "order"))
-    book["more"].append(("small", "=Sheet!B2", "2 1 3"))
-    book.save(path)
+    path, head = tmp_path / "a.xlsx", ("instance", "makespan", "order")
+    book_of(path, head, ("small", 10, "2 1 3"), more=[head, ("small", "=Sheet!B2", "2 1 3")])
     with pytest.raises(pfs.TableFault, match="a.xlsx, sheet more: cell B2: has a formula without a value"):
         pfs.audit(path, [shop])
-    book.remove(book["more"])
-    for name in ("a", "b"):
-        book.create_sheet(name)
-    book.save(path)
+    book_of(path, head, ("small", 10, "2 1 3"), a=[()], b=[()])
     monkeypatch.setattr(_workbooks, "MOST_CELLS", 300_000)
     rows = "".join(WIDE.format(number) for number in range(1, 11))
     changed(path, "sheet2.xml", NO_ROWS, f"<sheetData>{rows}</sheetData>")
@@ -140,11 +138,11 @@ def changed(path: pathlib.Path, part: str, old: str, new: str) -> pathlib.Path:
     return path
 
 
-@pytest.mark.parametrize("uri", ["CCE6A557-97BC-4b89-ADB6-D9C93CAAB3DF", "78C0D931-6437-407d-A8EE-F0AAD7539E65"],
-                         ids=["lists of choices", "conditional formats"])
-def test_warnings_of_openpyxl_are_not_shown(tmp_path: pathlib.Path, uri: str) -> None:
+def test_warnings_of_openpyxl_are_not_shown(tmp_path: pathlib.Path) -> None:
+    """Of a list of choices."""
     path = book_of(tmp_path / "times.xlsx", ("job", "saw"), ("table", 3))
-    changed(path, "sheet1.xml", "</worksheet>", f'<extLst><ext uri="{{{uri}}}"/></extLst></worksheet>')
+    ends = '<extLst><ext uri="{CCE6A557-97BC-4b89-ADB6-D9C93CAAB3DF}"/></extLst></worksheet>'
+    changed(path, "sheet1.xml", "</worksheet>", ends)
     with warnings.catch_warnings():
         warnings.simplefilter("error")
         assert pfs.read_csv(path).times.tolist() == [[3]]
@@ -213,15 +211,9 @@ def test_what_openpyxl_does_not_say_of_a_sheet() -> None:
 def test_rows_after_the_last_one_of_a_table_are_not_read(tmp_path: pathlib.Path,
                                                          monkeypatch: pytest.MonkeyPatch) -> None:
     path = book_of(tmp_path / "times.xlsx", *([f"j{at}", 1] for at in range(10_050)))
-    texts = list[object]()
-
-    def text_in(value: object) -> str:
-        texts.append(value)
-        return str(value)
-
-    monkeypatch.setattr(_workbooks, "text_in", text_in)
+    monkeypatch.setattr(_workbooks, "text_in", text_in := mock.Mock(side_effect=str))
     assert fault_of(path) == (10_002, 0, "the table has more than 10,000 rows")
-    assert len(texts) == 2 * 10_002
+    assert text_in.call_count == 2 * 10_002
 
 
 def test_a_schedule_is_shown_whole(tmp_path: pathlib.Path, office: Office) -> None:
@@ -262,7 +254,4 @@ def test_all_schedules_are_written(tmp_path: pathlib.Path) -> None:
     status, printed, got = ended(words, tmp_path)
     assert (status, got) == (0, "")
     assert (tmp_path / "b.csv").read_bytes() == (tmp_path / "\udce4.csv").read_bytes()
-    for name in ("a.xlsx", "b.csv"):
-        assert ended(["plan", "times.xlsx", "--order", name], tmp_path) == (0, printed, "")
-    (tmp_path / "d.csv").mkdir()
-    assert ended(["plan", "times.xlsx", "--schedule", "d.csv"], tmp_path) == (4, "", "pfs: d.csv: Is a directory\n")
+    assert ended(["plan", "times.xlsx", "--order", "a.xlsx"], tmp_path) == (0, printed, "")
