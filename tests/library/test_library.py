@@ -20,7 +20,7 @@ from support.needs import tool
 from support.program import Program, Ran
 from support.second_library import ITERATE_OPTIONS, OPTIONS, by_job
 from support.second_program import Instance, generated, makespan
-from support.tools import csv_rows, output_of, run_tool
+from support.tools import TOP, csv_rows, output_of, run_tool
 
 CALLS = SUPPORT / "library_calls.c"
 # The functions that allocate nothing once their instance is prepared, those that do, and those that need none.
@@ -152,18 +152,17 @@ def test_other_numbers_have_no_text(texts: dict[int, str]) -> None:
     assert {text for number, text in texts.items() if number not in MEANT} == {"unknown number"}
 
 
-# The manual page
+# The pages
 
-MANUAL = HEADER.parent.parent / "share" / "pfs.3"
-
-
-def test_the_manual_page_has_each_function() -> None:
-    assert set(re.findall(r"^\.Fn (\w+)", MANUAL.read_text(), re.MULTILINE)) == NAMES
+def test_the_pages_have_each_function() -> None:
+    assert set(re.findall(r"^\.Fn (\w+)", (TOP / "share" / "pfs.3").read_text(), re.MULTILINE)) == NAMES
+    table = (TOP / "docs" / "LIBRARY.md").read_text().partition("| Function |")[2].partition("\n\n")[0]
+    assert set(re.findall(r"`(pfs_\w+)`", table)) == NAMES
 
 
 def example(libpfs: Library, folder: pathlib.Path, *words: str, **how: Any) -> Program:
     """The example of the page."""
-    page = (HEADER.parent.parent / "docs" / "LIBRARY.md").read_text()
+    page = (TOP / "docs" / "LIBRARY.md").read_text()
     (folder / "example.c").write_text(re.findall(r"^```c\n(.*?)^```$", page, re.MULTILINE | re.DOTALL)[0])
     return compiled(folder / "example", [folder / "example.c"], libpfs, *words, **how)
 
@@ -185,11 +184,6 @@ def test_an_old_processor_is_reported(libpfs: Library, folder: pathlib.Path, is_
     assert (old.status, old.stdout) == (127, "") and "CPU ISA level is lower than required" in old.stderr
 
 
-def test_the_table_of_calls_of_the_page_has_each_function(top: pathlib.Path) -> None:
-    table = (top / "docs" / "LIBRARY.md").read_text().partition("| Function |")[2].partition("\n\n")[0]
-    assert set(re.findall(r"`(pfs_\w+)`", table)) == NAMES
-
-
 # The files
 
 def test_the_library_exports_only_the_names_of_the_header(libpfs: Library) -> None:
@@ -202,8 +196,9 @@ def test_the_library_exports_only_the_names_of_the_header(libpfs: Library) -> No
 
 
 def test_the_library_needs_only_the_c_library(libpfs: Library) -> None:
-    """And no executable stack."""
+    """And no executable stack, nor what is written after it is loaded in its tables."""
     got = output_of([tool("readelf"), "--dynamic", "--segments", "--wide", libpfs.path], libpfs.path.parent)
+    assert re.findall(r"^ *(GNU_RELRO)", got, re.MULTILINE) == ["GNU_RELRO"]
     assert re.findall(r"^ *GNU_STACK(?: +0x\w+){5} +([RWE]+)", got, re.MULTILINE) == ["RW"]
     assert re.findall(r"\(NEEDED\).*\[(.*)\]", got) == ["libc.so.6"]
     assert re.findall(r"\(SONAME\).*\[(.*)\]", got) == ["libpfs.so.1"]
@@ -264,18 +259,10 @@ def test_valgrind_finds_nothing_in_any_call(calls: Program, folder: pathlib.Path
 def test_a_failed_allocation_leaves_every_output_unchanged(calls: Program, shim: Shim, folder: pathlib.Path,
                                                            name: str) -> None:
     """Of two calls, the one whose allocation fails returns PFS_MEMORY and leaves every output unchanged. The other one
-    is right. Functions that need no allocation make none besides those of pfs_prepare."""
+    is right. Functions that need no allocation make none besides those of pfs_prepare, also on a large instance."""
     made = allocations(calls, shim, folder, name)
-    prepared = allocations(calls, shim, folder, "prepare")
-    assert name not in FUNCTIONS or (made > prepared) == (name in LOUD + OTHERS[1:])
-
-
-@OF_CALLS
-@pytest.mark.parametrize("call", ["insert", "makespans", "search"])
-def test_calls_on_large_instances_allocate_nothing(calls: Program, shim: Shim, folder: pathlib.Path,
-                                                   call: str) -> None:
-    prepared, made = (allocations(calls, shim, folder, f"{name}_large") for name in ("prepare", call))
-    assert made == prepared > 1
+    prepared = allocations(calls, shim, folder, "prepare_large" if name.endswith("_large") else "prepare")
+    assert prepared > 0 and (made > prepared) == (name in ["prepare_again", *LOUD, *OTHERS[1:]])
 
 
 def allocations(calls: Program, shim: Shim, folder: pathlib.Path, name: str) -> int:

@@ -108,8 +108,6 @@ def test_the_numbers_limits_and_functions_are_those_of_the_header() -> None:
     assert {number: name for number, (name, _) in INSTANCE_FAULTS.items()} == {at: names[at] for at in range(20, 29)}
     assert _library.LAYOUTS == {"taillard": defined["TAILLARD"], "orlib": defined["ORLIB"]}
     assert (_library.MOST_NOTE, _library.MOST_SEED) == (2**32 - 1, 2**64 - 1)
-    version = re.search(r'^#define PFS_VERSION "(.*)"$', text, re.MULTILINE)
-    assert version and version[1] == pfs.__version__
     types = {"size_t": "c_ulong", "uint32_t": "c_uint", "uint64_t": "c_ulong", "int": "c_int"}
     header = re.sub(r"/\*.*?\*/", "", (TOP / "lib" / "pfs.h").read_text(), flags=re.DOTALL)
     declared = dict(re.findall(r"^(?:int|void) (pfs_\w+)\((.*?)\)(?: PFS_CHECKED)?;", header,

@@ -17,9 +17,6 @@ from pfs._calendar import Clock
 DAY = datetime.timedelta(days=1)
 DAYS = ["mon", "tue", "wed", "thu", "fri", "sat", "sun"]
 EARLY = {"shifts": "06:00-14:00", "days": "mon-fri"}
-NIGHT = {"shifts": "22:00-06:00", "days": "mon-fri"}
-BREAK = {"shifts": ["06:00-09:00", "09:30-14:00"], "days": "mon-fri"}
-SHORT = {"shifts": ["mon-thu:06:00-14:00", "fri:06:00-10:00,12:00-14:00"]}
 ALWAYS: dict[str, Any] = {}
 # A calendar, the times of an operation in minutes, and when it starts and ends. 2026-11-30 is a Monday.
 BY_HAND: dict[str, tuple[str, dict[str, Any], int, int, str, str]] = {
@@ -222,18 +219,8 @@ def test_what_is_read_as_the_same_calendar() -> None:
     assert not pfs.Calendar("2026-11-30T06:00", closed="2036-12-07").is_always, "as far ahead as it may be"
 
 
-@pytest.mark.parametrize(("unit", "seconds", "end", "most"), [
-    ("h", 3600, 3, 6), ("d", 86_400, 1, 12), ("min", 60, 2, 8)])
-def test_a_mark_between_whole_times_has_its_own_time_of_day(unit: str, seconds: int, end: int, most: int) -> None:
-    marks = clock_of("2026-11-30T06:00", ALWAYS, unit).marks(end, most)
-    begin = datetime.datetime(2026, 11, 30, 6)
-    assert any(at % 1 for at, _ in marks) and marks[-1][0] == end
-    for at, text in marks:
-        assert text.startswith(f"{begin + datetime.timedelta(seconds=at * seconds):%H:%M}"), at
-
-
 @given(st.sampled_from([("s", 0), ("s", 2), ("min", 0), ("min", 1), ("h", 0), ("h", 3), ("d", 0)]),
-       st.integers(0, 10**6) | st.integers(0, 600), st.integers(1, 30))
+       st.integers(0, 10**6) | st.integers(0, 600) | st.integers(1, 3), st.integers(1, 30))
 def test_marks_are_as_close_as_there_is_room_for(unit: tuple[str, int], end: int, most: int) -> None:
     """At whole seconds, minutes or hours, each with its time of day, and with the date if it is another one."""
     seconds = {"s": 1, "min": 60, "h": 3_600, "d": 86_400}[unit[0]] / 10**unit[1]

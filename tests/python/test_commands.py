@@ -691,13 +691,14 @@ def test_a_plan_on_a_calendar(folder: pathlib.Path) -> None:
     (folder / "times.csv").write_text("job [min];saw;drill\ntable;300;200\nchair;250;400\n")
     words = ["plan", "times.csv", "--begin", "2026-11-30T06:00", "--shift", "06:00-09:00,09:30-11:30", "--shift",
              "12:00-15:00", "--days", "mon", "--days", "wed,fri"]
-    printed = run([*words, "--schedule", "out.csv"], folder)
+    printed = run([*words, "--schedule", "out.csv", "--schedule", "out.ICS"], folder)
     # 8 hours a day: chair up to minute 250 and 650, table from 250 to 550 and from 650 to 850.
     assert printed == "makespan 850 min\nbound 850 min\noptimal\nend 2026-12-02 13:10\n1 chair\n2 table\n"
     assert (folder / "out.csv").read_text("utf-8-sig").splitlines() == [
         "job;machine;start;end", "chair;saw;2026-11-30 06:00;2026-11-30 10:40",
         "chair;drill;2026-11-30 10:40;2026-12-02 08:50", "table;saw;2026-11-30 10:40;2026-12-02 07:10",
         "table;drill;2026-12-02 08:50;2026-12-02 13:10"]
+    assert (folder / "out-drill.ICS").read_text().count("BEGIN:VEVENT") == 6, "each part of a shift"
     (folder / "printed").write_text(printed)
     for order in ("out.csv", "printed"):
         assert run([*words, "--order", order], folder) == printed, f"the order of {order} is read back"
@@ -772,6 +773,7 @@ REJECTED = [
     (f"{PLAN} --shift 06:00-14:00", 3, "--shift needs --begin, which says when the work begins"),
     (f"{PLAN} --days mon-fri", 3, "--days needs --begin, which says when the work begins"),
     (f"{PLAN} --closed 2026-12-24", 3, "--closed needs --begin, which says when the work begins"),
+    (f"{PLAN} --schedule out.ICS", 3, "a schedule with the ending .ics needs --begin, which says when the work begins"),
     (f"plan plain.csv {BEGIN}", 3, "the times have no unit, which dates need: write min, h, s or d in brackets "
      "into the first cell of the table, as in 'job [min]', or set --unit"),
     (f"plan plain.csv {BEGIN} --days mon-fri --unit days", 3,
@@ -927,27 +929,6 @@ CHAIRS = "job [min],saw,drill\nchair,3,2\ntable,2,5\n"
 def pfs_plan(folder: pathlib.Path, *words: str) -> subprocess.CompletedProcess[str]:
     (folder / "times.csv").write_text(CHAIRS)
     return plainly.python("-c", CALL, *words, cwd=folder, COLUMNS="200")
-
-
-def test_the_manual_page_has_the_programs_options(folder: pathlib.Path) -> None:
-    usage = pfs_plan(folder, "--help").stdout.partition("\n\n")[0]
-    assert usage.startswith("usage: pfs-plan ")
-    due = dict(re.findall(r"\[--([\w-]+)(?: ([A-Za-z.=-]+|\{[^}]*\}))?\]", usage))
-    assert len(due) > 10 and due["version"] == ""
-    page = (TOP / "python" / "pfs-plan.1").read_text()
-    due |= {"decimal": "SIGN", "method": "METHOD"}
-    assert dict(re.findall(r"^\.It Fl -([\w-]+)(?: Ar (\S+))?$", page, re.MULTILINE)) == due
-
-
-@pytest.mark.parametrize("words", ["pfs", "pfs search", "pfs plan", "pfs.web", "pfs._gantt", "pfs.experiments",
-                                   *(f"pfs.experiments {name}" for name in (
-                                       "taillard", "run", "slurm", "status", "check", "prove", "audit", "report"))])
-def test_each_option_has_a_help_text(words: str, tmp_path: pathlib.Path) -> None:
-    lines = plainly.python("-m", *words.split(), "--help", cwd=tmp_path, COLUMNS="200").stdout.splitlines()
-    options = [(line, after) for line, after in zip(lines, [*lines[1:], ""]) if line.startswith("  -")]
-    assert options
-    for line, after in options:
-        assert re.search(r"\S {2,}\S", line) or re.match(r" {10,}\S", after), line
 
 
 @pytest.mark.parametrize("words", [["-m", "pfs", "plan"], ["-c", CALL]], ids=["python3 -m pfs plan", "pfs-plan"])

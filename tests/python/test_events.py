@@ -4,7 +4,6 @@ import pathlib
 from typing import Any
 
 import pfs
-from support.commands import ended
 from support.needs import require_module
 
 NAMES = ["chair, red; \u00e4" + "\u00e4" * 60, "table\\2"]
@@ -35,12 +34,3 @@ def test_each_machine_has_a_calendar(tmp_path: pathlib.Path) -> None:
     # Imported again, events replace the earlier ones.
     shop.schedule([0, 1]).to_ics(tmp_path / "plan.ics", calendar)
     assert {event[:2] for event in events(tmp_path / "plan-saw-1.ics")} & {event[:2] for event in saw}
-
-
-def test_a_plan_writes_calendars(tmp_path: pathlib.Path) -> None:
-    (tmp_path / "times.csv").write_text("job [min];saw;drill\ntable;300;200\nchair;250;400\n")
-    words = ["plan", "times.csv", "--schedule", "plan.ICS"]
-    assert ended(words, tmp_path) == (
-        3, "", "pfs: a schedule with the ending .ics needs --begin, which says when the work begins\n")
-    assert ended([*words, "--begin", "2026-11-30", "--shift", "06:00-14:00"], tmp_path)[0] == 0
-    assert len(events(tmp_path / "plan-drill.ICS")) == 3, "the first job is continued on the next day"

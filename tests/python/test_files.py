@@ -420,14 +420,10 @@ def test_there_is_one_block_and_a_limit_of_bytes(tmp_path: pathlib.Path, monkeyp
 SHOP = pfs.Instance([[30, 25], [20, 50], [40, 10]], job_names=["table", "chair", "shelf"], machine_names=["a", "b"])
 MADE = SHOP.schedule([1, 0, 2])
 WRITERS: dict[str, Callable[[pathlib.Path], object]] = {
-    "an instance": lambda path: SHOP.write(path),
-    "an order": lambda path: SHOP.solve(3).write(path),
-    "a schedule": lambda path: MADE.to_csv(path),
-    "a picture": lambda path: MADE.plot(path.with_suffix(".svg")),
-    "a page": lambda path: MADE.plot(path.with_suffix(".html")),
-    "a state": lambda path: _state.State(str(path), SHOP, _search.Search(SHOP, None, 0, None, 0, 0)).write(SHOP.neh()),
+    "shop": SHOP.write, "order": SHOP.solve(3).write, "schedule.csv": MADE.to_csv, "picture.svg": MADE.plot,
+    "page.html": MADE.plot,
+    "state": lambda path: _state.State(str(path), SHOP, _search.Search(SHOP, None, 0, None, 0, 0)).write(SHOP.neh()),
 }
-PATHS = {"a picture": "file.svg", "a page": "file.html"}
 
 
 @contextlib.contextmanager
@@ -441,49 +437,45 @@ def files_of_at_most(size: int) -> Iterator[None]:
         resource.setrlimit(resource.RLIMIT_FSIZE, (soft, hard))
 
 
-def path_for(kind: str, folder: pathlib.Path) -> pathlib.Path:
-    return folder / PATHS.get(kind, "file")
-
-
-@pytest.mark.parametrize("kind", WRITERS)
-def test_a_full_disk_and_ctrl_c_leave_the_old_file(tmp_path: pathlib.Path, kind: str,
+@pytest.mark.parametrize("name", WRITERS)
+def test_a_full_disk_and_ctrl_c_leave_the_old_file(tmp_path: pathlib.Path, name: str,
                                                    monkeypatch: pytest.MonkeyPatch) -> None:
-    path = path_for(kind, tmp_path)
+    path = tmp_path / name
     path.write_text("the old one")
     with files_of_at_most(16), pytest.raises(OSError, match="File too large") as fault:
-        WRITERS[kind](path)
+        WRITERS[name](path)
     assert fault.value.filename == str(path)
     with monkeypatch.context() as patch, pytest.raises(KeyboardInterrupt):
         patch.setattr(os, "fsync", lambda _: signal.raise_signal(signal.SIGINT))
-        WRITERS[kind](path)
-    assert path.read_text() == "the old one", f"{kind} was written in place"
+        WRITERS[name](path)
+    assert path.read_text() == "the old one", f"{name} was written in place"
     assert os.listdir(tmp_path) == [path.name], "half a file is left"
-    WRITERS[kind](path)
+    WRITERS[name](path)
     assert path.read_text() != "the old one" and os.listdir(tmp_path) == [path.name]
 
 
-@pytest.mark.parametrize("kind", WRITERS)
-def test_a_link_to_a_file_stays_and_no_other_one_is_followed(tmp_path: pathlib.Path, kind: str,
+@pytest.mark.parametrize("name", WRITERS)
+def test_a_link_to_a_file_stays_and_no_other_one_is_followed(tmp_path: pathlib.Path, name: str,
                                                              monkeypatch: pytest.MonkeyPatch) -> None:
-    path = path_for(kind, tmp_path)
+    path = tmp_path / name
     (tmp_path / "folder").mkdir()
     target = tmp_path / "folder" / "target"
     path.symlink_to("folder/target")
     monkeypatch.setattr(secrets, "token_hex", lambda _: "0123")
-    new = ".new" if kind == "a state" else ".0123.new"
+    new = ".new" if name == "state" else ".0123.new"
     path.with_name(path.name + new).mkdir()  # beside the link, perhaps on another disk, nothing is written
-    WRITERS[kind](path)
+    WRITERS[name](path)
     target.write_text("the old one")
     target.chmod(0o600)
-    WRITERS[kind](path)
+    WRITERS[name](path)
     assert path.is_symlink() and target.read_text() != "the old one"
     assert stat.S_IMODE(target.stat().st_mode) == 0o600, "the permissions have changed"
-    path = path_for(kind, tmp_path / "folder")
+    path = tmp_path / "folder" / name
     precious = path.with_name("precious")
     precious.write_text("kept")
     path.with_name(path.name + new).symlink_to(precious)
-    WRITERS[kind](path)
-    assert precious.read_text() == "kept", f"{kind} was written through a link"
+    WRITERS[name](path)
+    assert precious.read_text() == "kept", f"{name} was written through a link"
     assert not path.is_symlink() and {*os.listdir(path.parent)} == {path.name, "precious", "target"}
 
 

@@ -17,7 +17,7 @@ import pfs
 import pytest
 from pfs import _cli, _drawing, _gantt, _library, _tables, _workbooks
 from pfs._calendar import DAYS
-from pfs._commands import words
+from pfs._commands import plan_words, words
 from pfs._names import seconds_in
 from pfs._version import VERSION
 from pfs.experiments import ExperimentError, plan, run, stage
@@ -51,19 +51,26 @@ def test_errors_of_a_program(error: BaseException, status: int, said: str, capsy
 
 def test_the_help_has_no_word_that_is_nowhere_else() -> None:
     """In the pages, the manuals and the tests: no word is cut or misspelled. Texts of options also end with two words
-    that are there one after the other, or go on, default all, in TOML, and source, in inches, or no titles."""
+    that are there one after the other, or go on, default all, in TOML, and source, in inches, or no titles. Each
+    option has a text, and is in the manual page."""
     pages = [*TOP.glob("*.md"), *(path for folder in ("docs", "share", "python", "experiments", "tests")
                                   for ending in ("md", "1", "py") for path in (TOP / folder).rglob(f"*.{ending}")
                                   if path.suffix != ".py" or folder == "tests")]
     pairs = {pair for page in pages for pair in pairwise(re.findall("[a-z0-9]+", page.read_text().lower()))}
     known = {word for pair in pairs for word in pair}
-    for name, parser in {"python3 -m pfs": words(), "pfs-gantt": _gantt.words(), "pfs-web": web_words(),
-                         "pfs-experiments": command_line()}.items():
+    for name, parser in {"python3 -m pfs": words(), "pfs-plan": plan_words(), "pfs-gantt": _gantt.words(),
+                         "pfs-web": web_words(), "pfs-experiments": command_line()}.items():
         assert parser.format_usage().startswith(f"usage: {name} "), "the name of a program"
+        if name in ("pfs-plan", "pfs-gantt", "pfs-web"):
+            page = (TOP / "python" / f"{name}.1").read_text().replace("Ar SIGN", "Ar DECIMAL")
+            due = {each.option_strings[-1][1:]: "" if each.nargs == 0 else each.metavar or each.dest.upper()
+                   for each in parser._actions[1:] if each.option_strings}
+            assert dict(re.findall(r"^\.It Fl (-[\w-]+)(?: Ar (\S+))?$", page, re.MULTILINE)) == due, name
         commands: dict[str, Any] = next((each.choices for each in parser._actions
                                          if isinstance(each.choices, dict)), {})
         for each in (parser, *commands.values()):
             assert {*re.findall(r"[a-z]{2,}", re.sub("-\n *", "-", each.format_help()).lower())} <= known, each.prog
+            assert [it.dest for it in each._actions if it.option_strings and not it.help] == [], each.prog
             ends = (re.findall("[a-z0-9]+", (action.help or "").lower())[-2:] for action in each._actions)
             assert {(*end,) for end in ends if len(end) == 2} <= pairs, each.prog
     shown = " ".join(parser.format_help().split())

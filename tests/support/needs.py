@@ -72,11 +72,6 @@ def missing(why: str) -> NoReturn:
     pytest.skip(why)
 
 
-def in_ci() -> bool:
-    """Whether nothing may be skipped."""
-    return os.environ.get("CI") == "true"
-
-
 @pytest.hookimpl(hookwrapper=True)  # type: ignore[misc]  # pluggy has no types
 def pytest_runtest_makereport() -> Generator[None, Any, None]:
     """A test that is skipped in CI has failed."""
@@ -93,7 +88,7 @@ def pytest_make_collect_report() -> Generator[None, Any, None]:
 
 def refuse_skip(report: pytest.TestReport | pytest.CollectReport) -> None:
     """Makes a failure of a skip in CI, with the skip's reason."""
-    if report.skipped and in_ci() and not hasattr(report, "wasxfail"):
+    if report.skipped and os.environ.get("CI") == "true" and not hasattr(report, "wasxfail"):
         why = report.longrepr[2] if isinstance(report.longrepr, tuple) else str(report.longrepr)
         report.outcome = "failed"
         report.longrepr = f"no test is skipped in CI: {why.removeprefix('Skipped: ')}"

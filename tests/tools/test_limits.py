@@ -24,7 +24,6 @@ LIMITS = limits()
 # Where a constant has the name of the limit.
 NAMED = {
     "lib/pfs.h": r"^#define PFS_(\w+) (?:UINT64_C\()?(\d+)",
-    "python/src/pfs/_library.py": r"^(\w+): Final = (\d+)$",
     "python/src/pfs/_rounds.py": r"^(MOST_ROUNDS): Final = (\d+)$",
     "tests/support/second_library.py": r"^(MOST_\w+) = (\d+)$",
     "tests/support/second_program.py": r"^(\w+) = (\d+)$",
