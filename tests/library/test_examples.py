@@ -264,6 +264,7 @@ def test_the_example_in_r(installed: pathlib.Path, folder: pathlib.Path) -> None
 
 IN_CPP = """
 #include "pfs.hpp"
+#include "pfs.hpp"
 #include <cstdio>
 #include <type_traits>
 

@@ -46,14 +46,6 @@ PATTERN = 0xA5A5A5A5
 
 # The header
 
-@pytest.mark.parametrize("compiler, standard", [("gcc", "c99"), ("clang", "c99"), ("gcc", "c11"), ("g++", "c++17")])
-def test_the_header_compiles(folder: pathlib.Path, compiler: str, standard: str) -> None:
-    source = folder / ("header.cpp" if standard == "c++17" else "header.c")
-    source.write_text('#include "pfs.h"\n#include "pfs.h"\nextern int nothing;\n')
-    compile_quietly([tool(compiler), f"-std={standard}", "-Wall", "-Wextra", "-pedantic", "-Werror", "-fsyntax-only",
-                     f"-I{HEADER.parent}", source])
-
-
 def defined() -> dict[str, int]:
     """The macros of pfs.h with their numbers."""
     found = re.findall(r"^#define (PFS_\w+) (?:UINT64_C\()?(\d+)\b", HEADER.read_text(), re.MULTILINE)

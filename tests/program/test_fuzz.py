@@ -9,6 +9,7 @@ import sys
 import fuzz
 import pytest
 from support.program import Program, Ran
+from support.tools import write_script
 
 SHARES = 6
 SECONDS = 4.5
@@ -34,18 +35,10 @@ def test_a_run_without_cases_fails(pfs: Program, folder: pathlib.Path, seconds: 
     assert (ran.stderr, ran.status) == (b"", status) and re.fullmatch(printed.encode(), ran.stdout), ran
 
 
-@pytest.fixture
-def other(pfs: Program, folder: pathlib.Path) -> pathlib.Path:
-    """A program that does what pfs does, but ends with status 2 instead of 3."""
-    script = folder / "other"
-    script.write_text(f'#!/bin/sh\n{pfs.path} "$@"\nstatus=$?\n[ $status = 3 ] && exit 2\nexit $status\n')
-    script.chmod(0o755)
-    return script
-
-
-def test_a_program_that_differs_is_found(other: pathlib.Path, folder: pathlib.Path,
-                                         monkeypatch: pytest.MonkeyPatch) -> None:
-    """With its files, and a command that repeats it."""
+def test_a_program_that_differs_is_found(pfs: Program, folder: pathlib.Path, monkeypatch: pytest.MonkeyPatch) -> None:
+    """With its files, and a command that repeats it. It does what pfs does, but ends with status 2 instead of 3."""
+    other = write_script(folder / "other", f'#!/bin/sh\n{pfs.path} "$@"\nstatus=$?\n[ $status != 3 ] || exit 2\n'
+                                           "exit $status\n")
     monkeypatch.setenv("TMPDIR", str(folder))
     ran = run_fuzzer(folder, "--program", str(other), "--seed", "1")
     assert ran.status == 1 and b"the programs differ" in ran.stdout, ran

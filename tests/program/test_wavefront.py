@@ -130,18 +130,14 @@ def test_a_large_search_has_the_makespan_of_its_order(pfs: Program, folder: path
 MOST_MACHINES = [8, 16, 24, 40, 64, 104, 200]
 
 
-def extreme(jobs: int, machines: int, longest: int) -> Instance:
-    """An instance of the shortest and the longest times, so that some paths weigh nearly as much as any can."""
-    random = Random(f"{jobs} {machines} {longest}")
-    return shop_of(jobs, machines, [longest, *random.choices([0, 1, longest - 1, longest], k=jobs * machines - 1)])
-
-
 def around_limits(jobs: int, machines: int) -> list[Instance]:
     """Instances whose longest possible path is just below and just above what lanes of 16 and of 32 bits hold, whose
-    longest time is just below and just above what is stored in 16 bits, and one of the longest times of all."""
-    path = jobs + machines - 1
-    return [extreme(jobs, machines, longest) for longest in (65_534 // path, 65_535 // path + 1, 65_535, 65_536,
-                                                             (2**32 - 2) // path, 2**32 // path + 1, 1_000_000_000)]
+    longest time is just below and just above what is stored in 16 bits, and one of the longest times of all. They have
+    the shortest and the longest times, so that some paths weigh nearly as much as any can."""
+    path, random = jobs + machines - 1, Random(f"{jobs} {machines}")
+    return [shop_of(jobs, machines, [most, *random.choices([0, 1, most - 1, most], k=jobs * machines - 1)])
+            for most in (65_534 // path, 65_535 // path + 1, 65_535, 65_536, (2**32 - 2) // path, 2**32 // path + 1,
+                         1_000_000_000)]
 
 
 @pytest.mark.seconds(10)

@@ -132,33 +132,26 @@ def test_modules_that_need_no_library_are_imported_without_one(tmp_path: pathlib
 # Instances that the library has prepared
 
 @pytest.fixture
-def counted(monkeypatch: pytest.MonkeyPatch) -> dict[str, int]:
-    """The number of calls of these functions. Instances of earlier tests are released before."""
+def counted(monkeypatch: pytest.MonkeyPatch) -> Callable[[], list[int]]:
+    """The number of preparations and of releases. Instances of earlier tests are released before."""
     gc.collect()
-    counts = {"pfs_prepare": 0, "pfs_release": 0}
-
-    def counting(name: str, real: Callable[..., Any]) -> Callable[..., Any]:
-        def call(*given: Any) -> Any:
-            counts[name] += 1
-            return real(*given)
-        return call
-
-    for name in counts:
-        monkeypatch.setattr(_library.library, name, counting(name, getattr(_library.library, name)))
-    return counts
+    calls = {name: mock.Mock(wraps=getattr(_library.library, name)) for name in ("pfs_prepare", "pfs_release")}
+    for name, call in calls.items():
+        monkeypatch.setattr(_library.library, name, call)
+    return lambda: [call.call_count for call in calls.values()]
 
 
-def test_an_instance_is_prepared_once_and_released_with_it(counted: dict[str, int]) -> None:
+def test_an_instance_is_prepared_once_and_released_with_it(counted: Callable[[], list[int]]) -> None:
     shop = pfs.generate(12, 4, 1)
-    assert counted == {"pfs_prepare": 0, "pfs_release": 0}, "before the first call"
+    assert counted() == [0, 0], "before the first call"
     order = shop.neh()
     shop.makespan(order), shop.best_place(range(11), 11), shop.bound(), shop.schedule(order), shop.to_text()
     shop.places([0, 1], 2), shop.makespans([[0, 1]]), shop.insert_all([0], [1]), shop.local_search([1, 0])
     shop.solve(50)
-    assert counted == {"pfs_prepare": 1, "pfs_release": 0}
+    assert counted() == [1, 0]
     del shop
     gc.collect()
-    assert counted == {"pfs_prepare": 1, "pfs_release": 1}
+    assert counted() == [1, 1]
 
 
 @pytest.mark.parametrize("name", ["Handle", "c_size_t", "byref", "np", "c_void_p", "done"])
@@ -176,14 +169,14 @@ def test_an_interruption_of_the_preparation_leaves_nothing_to_release(name: str,
 
 
 @pytest.mark.parametrize("again", [copy.copy, copy.deepcopy, lambda shop: pickle.loads(pickle.dumps(shop))])
-def test_a_copy_prepares_its_own(counted: dict[str, int], again: Callable[[pfs.Instance], pfs.Instance]) -> None:
+def test_a_copy_prepares_its_own(counted: Callable[[], list[int]], again: Callable[[pfs.Instance], pfs.Instance]) -> None:
     shop = pfs.generate(12, 4, 1)
     due = shop.makespan(range(12))
     other = again(shop)
-    assert counted["pfs_prepare"] == 1
+    assert counted()[0] == 1
     del shop
     gc.collect()
-    assert other.makespan(range(12)) == due and counted == {"pfs_prepare": 2, "pfs_release": 1}
+    assert other.makespan(range(12)) == due and counted() == [2, 1]
 
 
 def test_threads_share_no_result() -> None:
@@ -202,7 +195,7 @@ def test_threads_share_no_result() -> None:
         assert all(threads.map(many, range(8)))
 
 
-def test_threads_on_one_instance_do_not_wait_for_each_other(counted: dict[str, int],
+def test_threads_on_one_instance_do_not_wait_for_each_other(counted: Callable[[], list[int]],
                                                             monkeypatch: pytest.MonkeyPatch) -> None:
     """A call returns while another one is made, for which it prepares the instance once more."""
     shop, begun, ended = pfs.generate(12, 4, 1), threading.Event(), threading.Event()
@@ -217,10 +210,10 @@ def test_threads_on_one_instance_do_not_wait_for_each_other(counted: dict[str, i
     with ThreadPoolExecutor(1) as threads:
         found = threads.submit(shop.solve, 1)
         assert begun.wait(30)
-        assert [shop.makespan(range(12)) for _ in range(3)] == [due] * 3 and counted["pfs_prepare"] == 2
+        assert [shop.makespan(range(12)) for _ in range(3)] == [due] * 3 and counted()[0] == 2
         ended.set()
         assert found.result().rounds == 1
-    assert shop.makespan(range(12)) == due and counted["pfs_prepare"] == 2
+    assert shop.makespan(range(12)) == due and counted()[0] == 2
 
 
 @pytest.mark.skipif(not hasattr(os, "fork"), reason="needs fork")

@@ -73,36 +73,25 @@ def test_read(tmp_path: pathlib.Path, text: str, layout: str, notes: tuple[int, 
         pfs.read(io.StringIO(text), layout)  # type: ignore[arg-type]
 
 
-class Drops(io.RawIOBase):
-    """A file whose reads return a few bytes at a time, as those of an unbuffered pipe may."""
-
-    def __init__(self, text: bytes, most: int) -> None:
-        self.left = text
-        self.most = most
-
-    def readable(self) -> bool:
-        return True
-
-    def readinto(self, place: Any) -> int:
-        count = min(len(place), self.most, len(self.left))
-        place[:count], self.left = self.left[:count], self.left[count:]
-        return count
-
-
 FORTY = b"2 2\n0 3 1 2\n0 2 1 40\n"
 ORDER = b"order2 12 2\n2 1 3 4 5 6 7 8 9 10 12 11\nmakespan 140\n"
 
 
 @pytest.mark.parametrize("most", [1, 2, 7, 1000])
 def test_reads_of_a_few_bytes(most: int) -> None:
-    reads: list[Any] = [Drops(FORTY, most), Drops(TWO_BLOCKS.encode(), most), Drops(ORDER, most)]
-    assert pfs.read(reads[0], "orlib").times.tolist() == [[3, 2], [2, 40]]
-    assert [shop.jobs for shop in pfs.read_all(reads[1], "orlib")] == [1, 3]
-    assert pfs.read_order(reads[2]).order.tolist() == [1, 0, 2, 3, 4, 5, 6, 7, 8, 9, 11, 10]
-    endless: Any = Drops(b"order " + b"1" * 70_000, most)
+    """As those of an unbuffered pipe may be."""
+
+    def drops(text: bytes) -> Any:
+        file = io.BytesIO(text)
+        return types.SimpleNamespace(read=lambda size: file.read(min(size, most)), file=file)
+
+    assert pfs.read(drops(FORTY), "orlib").times.tolist() == [[3, 2], [2, 40]]
+    assert [shop.jobs for shop in pfs.read_all(drops(TWO_BLOCKS.encode()), "orlib")] == [1, 3]
+    assert pfs.read_order(drops(ORDER)).order.tolist() == [1, 0, 2, 3, 4, 5, 6, 7, 8, 9, 11, 10]
+    endless = drops(b"order " + b"1" * 70_000)
     with pytest.raises(pfs.OrderFault, match="order file too long"):
         pfs.read_order(endless)
-    assert len(endless.left) == 70_006 - 65_537, "no more is read than one byte above the limit"
+    assert endless.file.tell() == 65_537, "no more is read than one byte above the limit"
     nothing: Any = types.SimpleNamespace(read=lambda _: None)
     with pytest.raises(BlockingIOError, match="^the file is non-blocking and has no data yet: use a blocking one$"):
         pfs.read(nothing, "orlib")
