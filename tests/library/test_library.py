@@ -89,9 +89,8 @@ def test_the_header_names_the_parameters_as_the_functions_do(top: pathlib.Path) 
 
 
 def test_the_version_number_is_that_of_the_version() -> None:
-    version = re.search(r'^#define PFS_VERSION "(\d+)\.(\d+)\.(\d+)"$', HEADER.read_text(), re.MULTILINE)
-    assert version
-    major, minor, patch = map(int, version.groups())
+    [version] = re.findall(r'^#define PFS_VERSION "(.*)"$', HEADER.read_text(), re.MULTILINE)
+    major, minor, patch = map(int, version.split("."))
     assert defined()["PFS_VERSION_NUMBER"] == 10_000 * major + 100 * minor + patch
 
 

@@ -135,24 +135,18 @@ def test_an_odd_order_file(pfs: Program, odd: pathlib.Path, line: str, name: str
 
 # Outputs that nobody reads, or that would have to wait
 
-@pytest.fixture
-def unread_end() -> Iterator[int]:
-    """The end of a pipe that nobody reads."""
-    read_end, write_end = os.pipe()
-    os.close(read_end)
-    yield write_end
-    os.close(write_end)
-
-
 BOTH_WAYS = pytest.mark.parametrize("restores", [True, False], ids=["signal as usual", "signal ignored"])
 
 
 @BOTH_WAYS
 @pytest.mark.parametrize("line", EACH.values())
-def test_a_pipe_without_a_reader_is_a_failed_write(pfs: Program, worked: pathlib.Path, unread_end: int, line: str,
+def test_a_pipe_without_a_reader_is_a_failed_write(pfs: Program, worked: pathlib.Path, line: str,
                                                    restores: bool) -> None:
     """The write fails without SIGPIPE, whether or not the parent process ignores that signal."""
-    assert pfs.run(line, worked, stdout=unread_end, restore_signals=restores) == unwritten(0)
+    read_end, write_end = os.pipe()
+    os.close(read_end)
+    assert pfs.run(line, worked, stdout=write_end, restore_signals=restores) == unwritten(0)
+    os.close(write_end)
 
 
 @BOTH_WAYS

@@ -24,16 +24,17 @@ import pytest
 from pfs import _library
 from pfs._faults import INSTANCE_FAULTS
 from support import plainly
+from support.needs import tool
 from support.tools import TOP
 
+# The numbers of preparations and of releases so far.
+Counts = Callable[[], list[int]]
 MAJOR = int(pfs.__version__.split(".")[0])
 LOADING = "import pfs, pfs._library; print(pfs._library.PATH, pfs.__version__)"
 
 
 def library_of(version: str, folder: pathlib.Path, without: str = "") -> pathlib.Path:
     """A library of this version whose functions do nothing; one of them is missing."""
-    if shutil.which("gcc") is None:
-        pytest.skip("gcc isn't installed (Debian: gcc)")
     text = (TOP / "lib" / "pfs.h").read_text()
     header, count = re.subn(r'(?m)^#define PFS_VERSION ".*"$', f'#define PFS_VERSION "{version}"', text)
     assert count == 1
@@ -41,9 +42,8 @@ def library_of(version: str, folder: pathlib.Path, without: str = "") -> pathlib
     shutil.copy(TOP / "lib" / "pfs_text.c", folder)
     names = [name for name in _library.PROTOTYPES if name != without]
     (folder / "nothing.c").write_text("".join(f"int {name}(void) {{ return 0; }}\n" for name in names))
-    words = ["gcc", "-shared", "-fPIC", f"-I{folder}", "-o", str(folder / "libpfs.so.1"), str(folder / "pfs_text.c"),
-             str(folder / "nothing.c")]
-    subprocess.run(words, check=True)
+    sources = [folder / name for name in ("pfs_text.c", "nothing.c")]
+    subprocess.run([tool("gcc"), "-shared", "-fPIC", f"-I{folder}", "-o", folder / "libpfs.so.1", *sources], check=True)
     return folder / "libpfs.so.1"
 
 
@@ -63,7 +63,7 @@ def test_a_library_of_another_version_is_rejected(tmp_path: pathlib.Path, versio
         (f"{library} {pfs.__version__}\n", []) if fits else ("", [got])), f"a library of version {version}"
 
 
-@pytest.mark.parametrize("what", [*_library.PROTOTYPES, None, b"", b"no library"])
+@pytest.mark.parametrize("what", ["pfs_prepare", "pfs_write_order", None, b"", b"no library"])
 def test_a_library_without_a_function_and_a_file_that_is_none_are_rejected(tmp_path: pathlib.Path,
                                                                            what: str | bytes | None) -> None:
     """When it is loaded, and not when the function is called."""
@@ -132,8 +132,8 @@ def test_modules_that_need_no_library_are_imported_without_one(tmp_path: pathlib
 # Instances that the library has prepared
 
 @pytest.fixture
-def counted(monkeypatch: pytest.MonkeyPatch) -> Callable[[], list[int]]:
-    """The number of preparations and of releases. Instances of earlier tests are released before."""
+def counted(monkeypatch: pytest.MonkeyPatch) -> Counts:
+    """Instances of earlier tests are released before."""
     gc.collect()
     calls = {name: mock.Mock(wraps=getattr(_library.library, name)) for name in ("pfs_prepare", "pfs_release")}
     for name, call in calls.items():
@@ -141,7 +141,7 @@ def counted(monkeypatch: pytest.MonkeyPatch) -> Callable[[], list[int]]:
     return lambda: [call.call_count for call in calls.values()]
 
 
-def test_an_instance_is_prepared_once_and_released_with_it(counted: Callable[[], list[int]]) -> None:
+def test_an_instance_is_prepared_once_and_released_with_it(counted: Counts) -> None:
     shop = pfs.generate(12, 4, 1)
     assert counted() == [0, 0], "before the first call"
     order = shop.neh()
@@ -169,7 +169,7 @@ def test_an_interruption_of_the_preparation_leaves_nothing_to_release(name: str,
 
 
 @pytest.mark.parametrize("again", [copy.copy, copy.deepcopy, lambda shop: pickle.loads(pickle.dumps(shop))])
-def test_a_copy_prepares_its_own(counted: Callable[[], list[int]], again: Callable[[pfs.Instance], pfs.Instance]) -> None:
+def test_a_copy_prepares_its_own(counted: Counts, again: Callable[[pfs.Instance], pfs.Instance]) -> None:
     shop = pfs.generate(12, 4, 1)
     due = shop.makespan(range(12))
     other = again(shop)
@@ -195,7 +195,7 @@ def test_threads_share_no_result() -> None:
         assert all(threads.map(many, range(8)))
 
 
-def test_threads_on_one_instance_do_not_wait_for_each_other(counted: Callable[[], list[int]],
+def test_threads_on_one_instance_do_not_wait_for_each_other(counted: Counts,
                                                             monkeypatch: pytest.MonkeyPatch) -> None:
     """A call returns while another one is made, for which it prepares the instance once more."""
     shop, begun, ended = pfs.generate(12, 4, 1), threading.Event(), threading.Event()

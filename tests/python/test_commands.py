@@ -9,7 +9,6 @@ import pathlib
 import pty
 import re
 import shlex
-import shutil
 import signal
 import subprocess
 import sys
@@ -260,10 +259,14 @@ def test_a_state_is_on_the_disk_before_it_replaces_the_old_one(folder: pathlib.P
         path = pathlib.Path(f"/proc/self/fd/{descriptor}").resolve()
         calls.append(f"{path.name} {path.is_dir() or path.read_text()[-2:]}")
 
+    def renamed(*paths: str) -> None:
+        calls.append("renamed")
+        replace(*paths)
+
     monkeypatch.setattr("os.fsync", fsync)
-    monkeypatch.setattr("os.replace", lambda *paths: (calls.append("replace"), replace(*paths)))
+    monkeypatch.setattr("os.replace", renamed)
     run([*LONG, "--rounds", "1", "--state", "state"], folder)
-    assert calls == ["state.new }\n", "replace", f"{folder.name} True"] * (len(calls) // 3) and calls
+    assert calls == ["state.new }\n", "renamed", f"{folder.name} True"] * (len(calls) // 3) and calls
 
 
 def test_progress_is_reported_on_a_terminal_only(folder: pathlib.Path) -> None:

@@ -335,7 +335,7 @@ def test_debians_tools_accept_the_packages(made: Made, folder: pathlib.Path) -> 
     assert (got.status, got.stdout) == (0, "")
     others = ["Breaks", "Provides", "Replaces"]
     for package, wanted in DEPENDS.items():
-        words = ["dpkg-deb", "--field", made.path(f"/{package}_")]
+        words = ["dpkg-deb", "--field", str(made.path(f"/{package}_"))]
         assert sorted(output_of([*words, *others, "Depends", "Maintainer", "Version"], folder).splitlines()) == sorted([
             f"Depends: {wanted}", "Maintainer: A Tester <tester@example.org>", f"Version: {BETWEEN}-1",
             *(f"{other}: pfs-tools" for other in others if "python" in package)])
