@@ -89,21 +89,15 @@ def test_no_example_leaks_or_reads_out_of_bounds(installed: pathlib.Path, pfs: P
     run_page(built, pfs, folder / "run")
 
 
-def least_delay(shop: Instance) -> int:
-    """The makespan of NEH that takes of equal places the one with the least total delay."""
-    order: list[int] = []
+def makespans_by_ties(shop: Instance) -> tuple[int, int]:
+    """The makespans of NEH that takes of equal places the one with the least total delay, and of the one that takes the
+    last, evaluated order by order."""
+    least, last = list[int](), list[int]()
     for job in sorted(range(shop.jobs), key=lambda job: (-shop.total(job), job)):
-        order = second_library.placed(shop, order, 0, job, 1)
-    return second_program.makespan(shop, order)
-
-
-def last_places(shop: Instance) -> int:
-    """The makespan of NEH that takes the last of equal places, evaluated order by order."""
-    order: list[int] = []
-    for job in sorted(range(shop.jobs), key=lambda job: (-shop.total(job), job)):
-        orders = [order[:place] + [job] + order[place:] for place in range(len(order), -1, -1)]
-        order = min(orders, key=lambda whole: second_program.makespan(shop, whole))
-    return second_program.makespan(shop, order)
+        least = second_library.placed(shop, least, 0, job, 1)
+        orders = [last[:place] + [job] + last[place:] for place in range(len(last), -1, -1)]
+        last = min(orders, key=lambda whole: second_program.makespan(shop, whole))
+    return second_program.makespan(shop, least), second_program.makespan(shop, last)
 
 
 @pytest.mark.parametrize(("jobs", "machines", "seed"), [(20, 5, SEED), (9, 3, 5), (12, 1, 77), (1, 4, 1), (7, 20, 9)])
@@ -111,8 +105,8 @@ def test_ties(built: pathlib.Path, folder: pathlib.Path, jobs: int, machines: in
     shop = generated(jobs, machines, seed)
     first = second_program.makespan(shop, second_program.by_totals(shop))
     got = run(built, "neh_ties", str(jobs), str(machines), str(seed), cwd=folder)
-    expected = f"first places {first}\nleast delay {least_delay(shop)}\nlast places {last_places(shop)}\n"
-    assert got == Done(0, expected, "")
+    least, last = makespans_by_ties(shop)
+    assert got == Done(0, f"first places {first}\nleast delay {least}\nlast places {last}\n", "")
 
 
 @pytest.fixture
@@ -232,9 +226,8 @@ IN_OTHER_LANGUAGES = "order [1, 0, 2], makespan 10\na list doesn't have the leng
 
 
 def test_the_example_in_rust(installed: pathlib.Path, folder: pathlib.Path) -> None:
-    line = re.search(r"^rustc (.*)$", PAGE, re.MULTILINE)
-    assert line
-    words = line[1].replace("neh.rs", str(EXAMPLES / "neh.rs")).split()
+    [line] = re.findall(r"^rustc (.*)$", PAGE, re.MULTILINE)
+    words = line.replace("neh.rs", str(EXAMPLES / "neh.rs")).split()
     compile_quietly([tool("rustc"), "-D", "warnings", "-L", installed / "lib", *words[:-2], str(folder / "neh"),
                      words[-1]])
     assert output_of([folder / "neh"], folder, env={"LD_LIBRARY_PATH": str(installed / "lib")}) == IN_OTHER_LANGUAGES
@@ -250,12 +243,11 @@ def test_the_example_for_cffi(installed: pathlib.Path, folder: pathlib.Path) -> 
 def test_the_example_in_r(installed: pathlib.Path, folder: pathlib.Path) -> None:
     """By the page's command, in a folder with the two files."""
     tool("R")
-    line = re.search(r"^PKG_CPPFLAGS=.*$", PAGE, re.MULTILINE)
-    assert line
+    [line] = re.findall(r"^PKG_CPPFLAGS=.*$", PAGE, re.MULTILINE)
     for name in ("neh.R", "pfs_r.c"):
         shutil.copy(EXAMPLES / name, folder)
     env = dict(os.environ, PKG_CONFIG_PATH=str(installed / "lib" / "pkgconfig"), LD_LIBRARY_PATH=str(installed / "lib"))
-    done = run_tool(["sh", "-e", "-c", line[0].replace("pfs_r.c", "pfs_r.c > log", 1)], folder, env=env)
+    done = run_tool(["sh", "-e", "-c", line.replace("pfs_r.c", "pfs_r.c > log", 1)], folder, env=env)
     assert re.fullmatch("order 2 1 3, makespan 10\npfs: a job .* twice.*\n", done.stdout), done
     assert "warning" not in (folder / "log").read_text() + done.stderr
 

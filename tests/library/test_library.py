@@ -6,7 +6,6 @@ import pathlib
 import re
 import subprocess
 import threading
-from collections.abc import Callable
 from random import Random
 from typing import Any
 
@@ -14,7 +13,7 @@ import fuzz
 import pytest
 from support import second_library, second_program
 from support.growths import Shim
-from support.library import (HEADER, SUPPORT, Answer, Library, Memory, Number, compile_quietly, compiled, list32,
+from support.library import (HEADER, SUPPORT, Library, Memory, Number, compile_quietly, compiled, list32,
                              list64, read32, text, u32s, u64s)
 from support.needs import tool
 from support.program import Program, Ran
@@ -412,16 +411,13 @@ def is_quick(name: str, arguments: Arguments) -> bool:
 
 
 def assert_same(libpfs: Library, name: str, arguments: Arguments) -> int:
-    """Both libraries return the same number and leave the same bytes in all memory. Returns the number."""
-    answer, due = (named(library, name, arguments) for library in (libpfs.call, second_library.call))
+    """Both libraries return the same number and leave the same bytes in all memory, but for the bytes after the last
+    field of a `struct pfs_block`. Returns the number."""
+    answer, due = libpfs.call(name, *arguments), second_library.call(name, *arguments)
+    if name == "pfs_read":
+        answer.memory[1], due.memory[1] = answer.memory[1][:28], due.memory[1][:28]
     assert answer == due, (name, arguments)
     return answer.number
-
-
-def named(call: Callable[..., Answer], name: str, arguments: Arguments) -> Answer:
-    """What a call returns, without the bytes after the last field of a `struct pfs_block`."""
-    number, memory = call(name, *arguments)
-    return Answer(number, [memory[0], memory[1][:28], *memory[2:]] if name == "pfs_read" else memory)
 
 
 @pytest.mark.quick

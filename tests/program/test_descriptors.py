@@ -121,16 +121,15 @@ ODD_ORDER_FILES = {
 }
 
 
-@pytest.mark.parametrize("name", ODD_INSTANCES)
-@pytest.mark.parametrize("line", WITH_INSTANCE)
-def test_an_odd_instance(pfs: Program, odd: pathlib.Path, line: str, name: str) -> None:
-    assert pfs.run(line.replace("three", name), odd) == ODD_INSTANCES[name]
+# Each line over an instance or an order file, with these in its place.
+ODD = [(line.replace(usual, name), answer) for usual, lines, odd in (
+    ("three", WITH_INSTANCE, ODD_INSTANCES), ("best", WITH_ORDER, ODD_ORDER_FILES)) for line in lines
+    for name, answer in odd.items()]
 
 
-@pytest.mark.parametrize("name", ODD_ORDER_FILES)
-@pytest.mark.parametrize("line", WITH_ORDER)
-def test_an_odd_order_file(pfs: Program, odd: pathlib.Path, line: str, name: str) -> None:
-    assert pfs.run(line.replace("best", name), odd) == ODD_ORDER_FILES[name]
+@pytest.mark.parametrize(("line", "answer"), ODD, ids=[line for line, _ in ODD])
+def test_an_odd_file(pfs: Program, odd: pathlib.Path, line: str, answer: Ran) -> None:
+    assert pfs.run(line, odd) == answer
 
 
 # Outputs that nobody reads, or that would have to wait

@@ -44,7 +44,6 @@ def test_a_program_that_differs_is_found(pfs: Program, folder: pathlib.Path, mon
     assert ran.status == 1 and b"the programs differ" in ran.stdout, ran
     [made] = folder.glob("pfs-differs-*")
     assert b"in a shell: cd %s && " % bytes(made) in ran.stdout
-    repeating = re.search(rb"to repeat it: \S+ (.*)", ran.stdout)
-    assert repeating
-    again = run_fuzzer(folder, *repeating[1].decode().split())
+    [repeating] = re.findall(rb"to repeat it: \S+ (.*)", ran.stdout)
+    again = run_fuzzer(folder, *repeating.decode().split())
     assert again.status == 1 and re.search(rb"wanted .*, 3\ngot    .*, 2\n", again.stdout), again

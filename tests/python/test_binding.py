@@ -76,18 +76,14 @@ def test_a_library_without_a_function_and_a_file_that_is_none_are_rejected(tmp_p
     assert got.endswith("): PFS_LIBRARY names it")
 
 
-def test_a_library_that_is_missing(tmp_path: pathlib.Path, monkeypatch: pytest.MonkeyPatch) -> None:
-    monkeypatch.delenv("PFS_LIBRARY", raising=False)
-    with pytest.raises(ImportError, match="set PFS_LIBRARY to the path of"):
-        _library.load(str(tmp_path / "none"))
-
-
 def test_the_library_that_the_variable_names_goes_before_the_packages(monkeypatch: pytest.MonkeyPatch,
                                                                      tmp_path: pathlib.Path) -> None:
     """Then the one in the package, as a wheel has it, and then the system's."""
     monkeypatch.setattr(_library, "__file__", str(tmp_path / "_library.py"))
     monkeypatch.delenv("PFS_LIBRARY", raising=False)
     assert _library.path_of_library() == "libpfs.so.1"
+    with pytest.raises(ImportError, match="set PFS_LIBRARY to the path of"):
+        _library.load(str(tmp_path / "none"))
     (tmp_path / "libpfs.so.1").touch()
     assert _library.path_of_library() == str(tmp_path / "libpfs.so.1")
     monkeypatch.setenv("PFS_LIBRARY", "")
@@ -252,14 +248,9 @@ def test_nothing_is_printed_when_python_ends_with_an_instance(tmp_path: pathlib.
 
 # A call from Python costs little more than what it computes
 
-def microseconds(call: Callable[[], object]) -> float:
-    """The best of many short runs, since other programs run too."""
-    return min(timeit.repeat(call, number=50, repeat=100)) / 50 * 1e6
-
-
 @pytest.mark.parametrize("kind", ["list", "int64", "uint32"])
 def test_a_call_for_20_jobs_on_5_machines(kind: str, untraced: None) -> None:
-    """3 microseconds on a machine that does nothing else."""
+    """3 microseconds on a machine that does nothing else. The best of many short runs, since other programs run."""
     shop = pfs.taillard(1)
     order = shop.neh().order
     given = order.tolist() if kind == "list" else np.array(order, dtype=kind)
@@ -267,7 +258,8 @@ def test_a_call_for_20_jobs_on_5_machines(kind: str, untraced: None) -> None:
     calls: dict[str, Callable[[], object]] = {
         "makespan": lambda: shop.makespan(given), "best_place": lambda: shop.best_place(others, job)}
     for name, call in calls.items():
-        assert (took := microseconds(call)) < 8, f"{name}: {took:.1f} microseconds"
+        took = min(timeit.repeat(call, number=50, repeat=100)) / 50 * 1e6
+        assert took < 8, f"{name}: {took:.1f} microseconds"
 
 
 def test_many_orders_and_places_cost_little_more_than_the_library(untraced: None) -> None:

@@ -37,15 +37,10 @@ def clock_of(begin: str, words: dict[str, Any], unit: str = "min", decimals: int
     return Clock(pfs.Calendar(begin, **words), pfs.Instance([[1]], unit=unit, decimals=decimals))
 
 
-def minutes(moment: datetime.datetime) -> str:
-    assert moment.second == moment.microsecond == 0
-    return moment.strftime("%Y-%m-%d %H:%M")
-
-
 @pytest.mark.parametrize("case", BY_HAND)
 def test_calendars_by_hand(case: str) -> None:
     begin, words, start, end, first, last = BY_HAND[case]
-    assert [minutes(moment) for moment in clock_of(begin, words).span(start, end)] == [first, last]
+    assert [str(moment) for moment in clock_of(begin, words).span(start, end)] == [f"{first}:00", f"{last}:00"]
 
 
 @pytest.mark.parametrize(("unit", "decimals", "time", "end"), [
@@ -281,16 +276,11 @@ def test_a_schedule_has_dates(unit: str, decimals: int, begin: str, rows: list[s
     assert text is not None and text.splitlines() == ["job;machine;start;end", *rows]
 
 
-def plan(unit: str = "min") -> pfs.Schedule:
-    shop = pfs.Instance([[240, 250, 0], [200, 500, 150], [400, 100, 200]], name="plan", unit=unit,
-                        job_names=["table", "chair", "box"], machine_names=["saw", "drill", "paint"])
-    return shop.schedule([1, 0, 2])
-
-
 def test_a_picture_has_dates_on_its_scale(tmp_path: pathlib.Path) -> None:
     """The work begins at 12:00, and the shift of 8 hours ends at 14:00."""
     pytest.importorskip("matplotlib")
-    figure = plan().plot(tmp_path / "chart.svg", calendar=pfs.Calendar("2026-11-30T12:00", **EARLY))
+    made = pfs.Instance([[240, 250, 0], [200, 500, 150], [400, 100, 200]], unit="min").schedule([1, 0, 2])
+    figure = made.plot(tmp_path / "chart.svg", calendar=pfs.Calendar("2026-11-30T12:00", **EARLY))
     axis = figure.axes[0]
     marks = [(mark.get_position()[0], mark.get_text()) for mark in axis.get_xticklabels()]
     assert marks == [(0, "12:00\nMon 2026-11-30"), (240, "08:00\nTue 2026-12-01"), (480, "12:00"),
@@ -300,8 +290,8 @@ def test_a_picture_has_dates_on_its_scale(tmp_path: pathlib.Path) -> None:
     assert axis.get_xlabel() == "date and time, in shifts only"
     texts = {text.text for text in ElementTree.parse(tmp_path / "chart.svg").iter("{http://www.w3.org/2000/svg}text")}
     assert {"Mon 2026-11-30", "Wed 2026-12-02"} <= texts
-    always = plan().plot(calendar=pfs.Calendar("2026-11-30T12:00"))
+    always = made.plot(calendar=pfs.Calendar("2026-11-30T12:00"))
     assert always.axes[0].get_xlabel() == "date and time"
-    assert plan().plot().axes[0].get_xlabel() == "time (min)"
+    assert made.plot().axes[0].get_xlabel() == "time (min)"
     assert axis.get_title().endswith(" min, end Thu 2026-12-03 08:50")
-    assert not plan().plot().axes[0].get_title().endswith(" min")
+    assert not made.plot().axes[0].get_title().endswith(" min")

@@ -29,16 +29,13 @@ MOST_SECONDS = 120
 
 # Texts of pages
 
-def tables(text: str) -> list[list[list[str]]]:
-    """The cells of each table, row by row, without the rule below its head."""
-    found = [table.splitlines() for table in re.findall(r"(?:^\|.*\|\n)+", text, re.MULTILINE)]
-    return [[[cell.strip() for cell in line.strip("|").split("|")] for line in [head, *rows]]
-            for head, _, *rows in found]
-
-
 def table(text: str, *head: str) -> list[list[str]]:
-    """The rows of the tables with this head."""
-    return [row for rows in tables(text) if rows[0] == list(head) for row in rows[1:]]
+    """The rows of the tables with this head, without the rule below it."""
+    found: list[list[str]] = []
+    for each in re.findall(r"(?:^\|.*\|\n)+", text, re.MULTILINE):
+        rows = [[cell.strip() for cell in line.strip("|").split("|")] for line in each.splitlines()]
+        found += rows[2:] if rows[0] == list(head) else []
+    return found
 
 
 # The tables of facts
