@@ -186,7 +186,7 @@ def test_the_library_exports_only_the_names_of_the_header(libpfs: Library) -> No
 
 
 def test_the_library_needs_only_the_c_library(libpfs: Library) -> None:
-    """And no executable stack, nor what is written after it is loaded in its tables."""
+    """It has no executable stack, and its tables aren't written once it is loaded."""
     got = output_of([tool("readelf"), "--dynamic", "--segments", "--wide", libpfs.path], libpfs.path.parent)
     assert re.findall(r"^ *(GNU_RELRO)", got, re.MULTILINE) == ["GNU_RELRO"]
     assert re.findall(r"^ *GNU_STACK(?: +0x\w+){5} +([RWE]+)", got, re.MULTILINE) == ["RW"]

@@ -61,7 +61,7 @@ def test_the_help_has_no_word_that_is_nowhere_else() -> None:
     for name, parser in {"python3 -m pfs": words(), "pfs-plan": plan_words(), "pfs-gantt": _gantt.words(),
                          "pfs-web": web_words(), "pfs-experiments": command_line()}.items():
         assert parser.format_usage().startswith(f"usage: {name} "), "the name of a program"
-        if name in ("pfs-plan", "pfs-gantt", "pfs-web"):
+        if name in ("pfs-plan", "pfs-web"):
             page = (TOP / "python" / f"{name}.1").read_text().replace("Ar SIGN", "Ar DECIMAL")
             due = {each.option_strings[-1][1:]: "" if each.nargs == 0 else each.metavar or each.dest.upper()
                    for each in parser._actions[1:] if each.option_strings}
