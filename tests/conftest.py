@@ -4,16 +4,18 @@ import os
 import pathlib
 import re
 import shutil
+import signal
 import sys
 from collections.abc import Iterator
 
 import pytest
+from _pytest.assertion import truncate
 from hypothesis import HealthCheck, settings
 
 pytest.register_assert_rewrite("support")
 from support.files import make_files
 from support.library import Library
-from support.needs import missing, prepare_process, tool
+from support.needs import missing, tool
 from support.program import Program
 from support.tools import TOP
 
@@ -47,7 +49,13 @@ def pytest_addoption(parser: pytest.Parser) -> None:
 
 
 def pytest_configure(config: pytest.Config) -> None:
-    prepare_process()
+    # What a failing assertion says is cut off after 8 lines otherwise. Since pytest 8.4 there is a setting for it.
+    truncate.DEFAULT_MAX_LINES, truncate.DEFAULT_MAX_CHARS = 60, 6_000
+    # What runs in the background of a shell ignores it, and so would all that the tests start.
+    if signal.getsignal(signal.SIGINT) == signal.SIG_IGN:
+        signal.signal(signal.SIGINT, signal.default_int_handler)
+    # It would hide that a script doesn't flush what it prints.
+    os.environ.pop("PYTHONUNBUFFERED", None)
     # Scripts begin with `env python3`: Debian's Python has the packages that they need, and starts fast.
     os.environ["PATH"] = f"/usr/bin:{os.environ['PATH']}"
     library = pathlib.Path(config.getoption("libpfs")).resolve()

@@ -3,7 +3,6 @@ a folder like an installed one. It prints what the page shows, and what the prog
 import os
 import pathlib
 import re
-import shlex
 import shutil
 import subprocess
 
@@ -13,13 +12,12 @@ from support.library import HEADER, Library, compile_quietly
 from support.needs import tool
 from support.program import Program
 from support.second_program import Instance, generated
-from support.tools import Done, csv_rows, require_debian_module, output_of, run_tool, with_path
+from support.tools import TOP, Done, csv_rows, require_debian_module, output_of, run_tool, with_path
 
-EXAMPLES = HEADER.parent.parent / "examples"
+EXAMPLES = TOP / "examples"
 PAGE = (EXAMPLES / "README.md").read_text()
 SOURCES = [EXAMPLES / name
            for name in ("audit_orders.c", "gaps.cpp", "ig_temperature.c", "neh_ties.c", "timed_search.c")]
-VERSION = (HEADER.parent.parent / "VERSION").read_text().strip()
 STRICT = {"cc": "-std=c99", "c++": "-std=c++17"}
 SEED = 873654221
 
@@ -30,24 +28,11 @@ pytestmark = [pytest.mark.xdist_group("examples"), pytest.mark.seconds(5)]
 def installed(libpfs: Library, tmp_path_factory: pytest.TempPathFactory) -> pathlib.Path:
     """A prefix with the library, as far as compiling needs it."""
     prefix = tmp_path_factory.mktemp("installed")
-    for folder in ("include", "lib/pkgconfig"):
-        (prefix / folder).mkdir(parents=True)
-    shutil.copy(HEADER, prefix / "include")
-    shutil.copy(libpfs.path, prefix / "lib" / "libpfs.so.1")
-    (prefix / "lib" / "libpfs.so").symlink_to("libpfs.so.1")
-    lines = {"prefix=.*": f"prefix={prefix}", "libdir=.*": "libdir=${prefix}/lib", "Version:.*": f"Version: {VERSION}"}
-    text = HEADER.with_name("pfs.pc.in").read_text()
-    for line, filled in lines.items():
-        text = re.sub(f"^{line}$", filled, text, flags=re.MULTILINE)
-    (prefix / "lib" / "pkgconfig" / "pfs.pc").write_text(text)
+    listed = (f"lib/pfs.h include/pfs.h\n{libpfs.path.resolve()} lib/libpfs.so.1\n-> libpfs.so.1 lib/libpfs.so\n"
+              "lib/pfs.pc.in lib/pkgconfig/pfs.pc\n")
+    got = run_tool([TOP / "tools" / "install", "put", "", prefix, "lib"], TOP, stdin=None, input=listed)
+    assert got == Done(0, "", "")
     return prefix
-
-
-def flags_of(installed: pathlib.Path) -> list[str]:
-    """What pkg-config says of the library, and where a program finds it."""
-    env = {"PKG_CONFIG_PATH": str(installed / "lib" / "pkgconfig"), "PATH": "/usr/bin:/bin"}
-    printed = output_of([tool("pkg-config"), "--cflags", "--libs", "pfs"], installed, env=env)
-    return [*shlex.split(printed), f"-Wl,-rpath,{installed / 'lib'}"]
 
 
 @pytest.fixture(scope="session")
@@ -59,11 +44,13 @@ def built(installed: pathlib.Path, tmp_path_factory: pytest.TempPathFactory) -> 
 def compile_examples(installed: pathlib.Path, folder: pathlib.Path, *options: str) -> pathlib.Path:
     """Compile the examples into a folder by the commands of the page, with more options of the compiler."""
     lines = {compiler: line for line, compiler in re.findall(r"^((cc|c\+\+) .*)$", PAGE, re.MULTILINE)}
+    env = {"PKG_CONFIG_PATH": str(installed / "lib" / "pkgconfig"), "PATH": "/usr/bin:/bin"}
+    flags = output_of([tool("pkg-config"), "--cflags", "--libs", "pfs"], installed, env=env).split()
     for source in SOURCES:
         compiler = "cc" if source.suffix == ".c" else "c++"
         assert "$(pkg-config --cflags --libs pfs)" in lines[compiler] and STRICT[compiler] in lines[compiler]
         compile_quietly([tool(compiler), STRICT[compiler], "-O2", "-Wall", "-Wextra", "-pedantic", "-Werror",
-                         *options, "-o", folder / source.stem, source, *flags_of(installed), "-lm"])
+                         *options, "-o", folder / source.stem, source, *flags, f"-Wl,-rpath,{installed}/lib", "-lm"])
     return folder
 
 
@@ -102,21 +89,15 @@ def test_no_example_leaks_or_reads_out_of_bounds(installed: pathlib.Path, pfs: P
     run_page(built, pfs, folder / "run")
 
 
-def least_delay(shop: Instance) -> int:
-    """The makespan of NEH that takes of equal places the one with the least total delay."""
-    order: list[int] = []
+def makespans_by_ties(shop: Instance) -> tuple[int, int]:
+    """The makespans of NEH that takes of equal places the one with the least total delay, and of the one that takes the
+    last, evaluated order by order."""
+    least, last = list[int](), list[int]()
     for job in sorted(range(shop.jobs), key=lambda job: (-shop.total(job), job)):
-        order = second_library.placed(shop, order, 0, job, 1)
-    return second_program.makespan(shop, order)
-
-
-def last_places(shop: Instance) -> int:
-    """The makespan of NEH that takes the last of equal places, evaluated order by order."""
-    order: list[int] = []
-    for job in sorted(range(shop.jobs), key=lambda job: (-shop.total(job), job)):
-        orders = [order[:place] + [job] + order[place:] for place in range(len(order), -1, -1)]
-        order = min(orders, key=lambda whole: second_program.makespan(shop, whole))
-    return second_program.makespan(shop, order)
+        least = second_library.placed(shop, least, 0, job, 1)
+        orders = [last[:place] + [job] + last[place:] for place in range(len(last), -1, -1)]
+        last = min(orders, key=lambda whole: second_program.makespan(shop, whole))
+    return second_program.makespan(shop, least), second_program.makespan(shop, last)
 
 
 @pytest.mark.parametrize(("jobs", "machines", "seed"), [(20, 5, SEED), (9, 3, 5), (12, 1, 77), (1, 4, 1), (7, 20, 9)])
@@ -124,8 +105,8 @@ def test_ties(built: pathlib.Path, folder: pathlib.Path, jobs: int, machines: in
     shop = generated(jobs, machines, seed)
     first = second_program.makespan(shop, second_program.by_totals(shop))
     got = run(built, "neh_ties", str(jobs), str(machines), str(seed), cwd=folder)
-    expected = f"first places {first}\nleast delay {least_delay(shop)}\nlast places {last_places(shop)}\n"
-    assert got == Done(0, expected, "")
+    least, last = makespans_by_ties(shop)
+    assert got == Done(0, f"first places {first}\nleast delay {least}\nlast places {last}\n", "")
 
 
 @pytest.fixture
@@ -158,22 +139,19 @@ def test_a_search_rejects_other_orders(built: pathlib.Path, shop: pathlib.Path, 
 
 
 def test_a_search_with_temperature(built: pathlib.Path, pfs: Program, shop: pathlib.Path) -> None:
-    """It finds the best known makespan of this instance, of which a search without temperature stays above."""
+    """In no time it finds an order, which is the same again."""
     neh = int(pfs.run("solve --layout taillard shop", shop).stdout.split()[-1])
-    makespans = []
-    for seconds in ("0", "1"):
-        found = run(built, "ig_temperature", "shop", "7", seconds, cwd=shop)
-        assert (found.status, found.stderr) == (0, "")
-        (shop / "found").write_text(found.stdout)
-        assert pfs.run("check --layout taillard shop found", shop).stdout.startswith(b"valid\n")
-        makespans.append(int(found.stdout.split()[-1]))
-    assert neh >= makespans[0] > makespans[1] == 1278
-    assert run(built, "ig_temperature", "shop", "7", "0", cwd=shop).stdout.endswith(f"makespan {makespans[0]}\n")
+    found = run(built, "ig_temperature", "shop", "7", "0", cwd=shop)
+    assert (found.status, found.stderr) == (0, "") and neh >= int(found.stdout.split()[-1]) > 1278
+    assert found == run(built, "ig_temperature", "shop", "7", "0", cwd=shop)
+    (shop / "found").write_text(found.stdout)
+    assert pfs.run("check --layout taillard shop found", shop).stdout.startswith(b"valid\n")
 
 
 def test_a_plan_runs_and_audits_the_search_with_temperature(built: pathlib.Path, pfs: Program, libpfs: Library,
                                                            shop: pathlib.Path, scripts: pathlib.Path) -> None:
-    """The program in C, and the one in Python, each in one plan with pfs."""
+    """The program in C, and the one in Python, each in one plan with pfs. They find the best known makespan of this
+    instance, of which a search without temperature stays above."""
     tool("parallel")
     plan = (EXAMPLES.parent / "experiments" / "ig_temperature.toml").read_text().replace("ta*", "ta001")
     (shop / "out" / "taillard").mkdir(parents=True)
@@ -192,18 +170,15 @@ def test_a_plan_runs_and_audits_the_search_with_temperature(built: pathlib.Path,
             ("out/taillard/ta001", "1278", "ok")}
 
 
-def test_files_that_cannot_be_opened_read_or_written(built: pathlib.Path, shop: pathlib.Path) -> None:
-    got = run(built, "timed_search", "none", "7", "0", "0", cwd=shop)
-    assert got == Done(4, "", "timed_search: none: cannot open\n")
-    got = run(built, "timed_search", "shop", "7", "0", "1", "0", ".", cwd=shop)
-    assert got == Done(4, "", "timed_search: .: cannot read\n")
-    got = run(built, "ig_temperature", "none", "1", "1", cwd=shop)
-    assert got == Done(4, "", "ig_temperature: none: cannot read\n")
-    assert run(built, "audit_orders", "none", "x", cwd=shop) == Done(4, "", "audit_orders: none: cannot open\n")
-    assert run(built, "audit_orders", "shop", "none", cwd=shop) == Done(4, "", "audit_orders: none: cannot open\n")
-    (shop / "empty").write_bytes(b"")
-    got = run(built, "timed_search", "empty", "7", "0", "0", cwd=shop)
-    assert got == Done(2, "", "timed_search: empty: the file ends before the block\n")
+@pytest.mark.parametrize(("words", "status", "said"), [
+    ("timed_search none 7 0 0", 4, "none: cannot open"), ("timed_search shop 7 0 1 0 .", 4, ".: cannot read"),
+    ("ig_temperature none 1 1", 4, "none: cannot read"), ("audit_orders none x", 4, "none: cannot open"),
+    ("audit_orders shop none", 4, "none: cannot open"),
+    ("timed_search empty 7 0 0", 2, "empty: the file ends before the block")])
+def test_files_that_cannot_be_read(built: pathlib.Path, shop: pathlib.Path, words: str, status: int, said: str) -> None:
+    (shop / "empty").touch()
+    name, *others = words.split()
+    assert run(built, name, *others, cwd=shop) == Done(status, "", f"{name}: {said}\n")
 
 
 @pytest.mark.parametrize("words", [["timed_search", "shop", "7", "0", "0"], ["neh_ties", "5", "2", "1"],
@@ -215,8 +190,8 @@ def test_a_full_device_is_reported(built: pathlib.Path, shop: pathlib.Path, word
 
 
 def test_audits(built: pathlib.Path, folder: pathlib.Path) -> None:
-    (folder / "shop").write_bytes(second_program.canonical(generated(3, 2, SEED), b"taillard"))
     shop = generated(3, 2, SEED)
+    (folder / "shop").write_bytes(second_program.canonical(shop, b"taillard"))
     makespan, bound = second_program.makespan(shop, [0, 1, 2]), second_program.lower_bound(shop)
     texts = {
         "right": second_program.order_text([0, 1, 2], 2, makespan),
@@ -237,7 +212,6 @@ def test_audits(built: pathlib.Path, folder: pathlib.Path) -> None:
     for names in (["wrong", "right"], ["right", "wrong"], ["one", "twice", "right"], ["other", "one"], ["wrong"] * 2):
         status = run(built, "audit_orders", "shop", *names, cwd=folder).status
         assert status == 1, f"the status of the files {names}"
-    assert run(built, "audit_orders", "shop", "right", "right", "one", cwd=folder).status == 0
 
 
 @pytest.mark.parametrize("name", [path.stem for path in SOURCES])
@@ -252,9 +226,8 @@ IN_OTHER_LANGUAGES = "order [1, 0, 2], makespan 10\na list doesn't have the leng
 
 
 def test_the_example_in_rust(installed: pathlib.Path, folder: pathlib.Path) -> None:
-    line = re.search(r"^rustc (.*)$", PAGE, re.MULTILINE)
-    assert line
-    words = line[1].replace("neh.rs", str(EXAMPLES / "neh.rs")).split()
+    [line] = re.findall(r"^rustc (.*)$", PAGE, re.MULTILINE)
+    words = line.replace("neh.rs", str(EXAMPLES / "neh.rs")).split()
     compile_quietly([tool("rustc"), "-D", "warnings", "-L", installed / "lib", *words[:-2], str(folder / "neh"),
                      words[-1]])
     assert output_of([folder / "neh"], folder, env={"LD_LIBRARY_PATH": str(installed / "lib")}) == IN_OTHER_LANGUAGES
@@ -270,12 +243,11 @@ def test_the_example_for_cffi(installed: pathlib.Path, folder: pathlib.Path) -> 
 def test_the_example_in_r(installed: pathlib.Path, folder: pathlib.Path) -> None:
     """By the page's command, in a folder with the two files."""
     tool("R")
-    line = re.search(r"^PKG_CPPFLAGS=.*$", PAGE, re.MULTILINE)
-    assert line
+    [line] = re.findall(r"^PKG_CPPFLAGS=.*$", PAGE, re.MULTILINE)
     for name in ("neh.R", "pfs_r.c"):
         shutil.copy(EXAMPLES / name, folder)
     env = dict(os.environ, PKG_CONFIG_PATH=str(installed / "lib" / "pkgconfig"), LD_LIBRARY_PATH=str(installed / "lib"))
-    done = run_tool(["sh", "-e", "-c", line[0].replace("pfs_r.c", "pfs_r.c > log", 1)], folder, env=env)
+    done = run_tool(["sh", "-e", "-c", line.replace("pfs_r.c", "pfs_r.c > log", 1)], folder, env=env)
     assert re.fullmatch("order 2 1 3, makespan 10\npfs: a job .* twice.*\n", done.stdout), done
     assert "warning" not in (folder / "log").read_text() + done.stderr
 
@@ -283,6 +255,7 @@ def test_the_example_in_r(installed: pathlib.Path, folder: pathlib.Path) -> None
 # What people copy: the header for C++ and the module for Rust
 
 IN_CPP = """
+#include "pfs.hpp"
 #include "pfs.hpp"
 #include <cstdio>
 #include <type_traits>

@@ -6,7 +6,6 @@ import pathlib
 import re
 import subprocess
 import threading
-from collections.abc import Callable
 from random import Random
 from typing import Any
 
@@ -14,13 +13,13 @@ import fuzz
 import pytest
 from support import second_library, second_program
 from support.growths import Shim
-from support.library import (HEADER, SUPPORT, Answer, Library, Memory, Number, compile_quietly, compiled, list32,
+from support.library import (HEADER, SUPPORT, Library, Memory, Number, compile_quietly, compiled, list32,
                              list64, read32, text, u32s, u64s)
 from support.needs import tool
 from support.program import Program, Ran
 from support.second_library import ITERATE_OPTIONS, OPTIONS, by_job
 from support.second_program import Instance, generated, makespan
-from support.tools import csv_rows, output_of, run_tool
+from support.tools import TOP, csv_rows, output_of, run_tool
 
 CALLS = SUPPORT / "library_calls.c"
 # The functions that allocate nothing once their instance is prepared, those that do, and those that need none.
@@ -45,14 +44,6 @@ PATTERN = 0xA5A5A5A5
 
 
 # The header
-
-@pytest.mark.parametrize("compiler, standard", [("gcc", "c99"), ("clang", "c99"), ("gcc", "c11"), ("g++", "c++17")])
-def test_the_header_compiles(folder: pathlib.Path, compiler: str, standard: str) -> None:
-    source = folder / ("header.cpp" if standard == "c++17" else "header.c")
-    source.write_text('#include "pfs.h"\n#include "pfs.h"\nextern int nothing;\n')
-    compile_quietly([tool(compiler), f"-std={standard}", "-Wall", "-Wextra", "-pedantic", "-Werror", "-fsyntax-only",
-                     f"-I{HEADER.parent}", source])
-
 
 def defined() -> dict[str, int]:
     """The macros of pfs.h with their numbers."""
@@ -97,9 +88,8 @@ def test_the_header_names_the_parameters_as_the_functions_do(top: pathlib.Path) 
 
 
 def test_the_version_number_is_that_of_the_version() -> None:
-    version = re.search(r'^#define PFS_VERSION "(\d+)\.(\d+)\.(\d+)"$', HEADER.read_text(), re.MULTILINE)
-    assert version
-    major, minor, patch = map(int, version.groups())
+    [version] = re.findall(r'^#define PFS_VERSION "(.*)"$', HEADER.read_text(), re.MULTILINE)
+    major, minor, patch = map(int, version.split("."))
     assert defined()["PFS_VERSION_NUMBER"] == 10_000 * major + 100 * minor + patch
 
 
@@ -152,18 +142,17 @@ def test_other_numbers_have_no_text(texts: dict[int, str]) -> None:
     assert {text for number, text in texts.items() if number not in MEANT} == {"unknown number"}
 
 
-# The manual page
+# The pages
 
-MANUAL = HEADER.parent.parent / "share" / "pfs.3"
-
-
-def test_the_manual_page_has_each_function() -> None:
-    assert set(re.findall(r"^\.Fn (\w+)", MANUAL.read_text(), re.MULTILINE)) == NAMES
+def test_the_pages_have_each_function() -> None:
+    assert set(re.findall(r"^\.Fn (\w+)", (TOP / "share" / "pfs.3").read_text(), re.MULTILINE)) == NAMES
+    table = (TOP / "docs" / "LIBRARY.md").read_text().partition("| Function |")[2].partition("\n\n")[0]
+    assert set(re.findall(r"`(pfs_\w+)`", table)) == NAMES
 
 
 def example(libpfs: Library, folder: pathlib.Path, *words: str, **how: Any) -> Program:
     """The example of the page."""
-    page = (HEADER.parent.parent / "docs" / "LIBRARY.md").read_text()
+    page = (TOP / "docs" / "LIBRARY.md").read_text()
     (folder / "example.c").write_text(re.findall(r"^```c\n(.*?)^```$", page, re.MULTILINE | re.DOTALL)[0])
     return compiled(folder / "example", [folder / "example.c"], libpfs, *words, **how)
 
@@ -185,11 +174,6 @@ def test_an_old_processor_is_reported(libpfs: Library, folder: pathlib.Path, is_
     assert (old.status, old.stdout) == (127, "") and "CPU ISA level is lower than required" in old.stderr
 
 
-def test_the_table_of_calls_of_the_page_has_each_function(top: pathlib.Path) -> None:
-    table = (top / "docs" / "LIBRARY.md").read_text().partition("| Function |")[2].partition("\n\n")[0]
-    assert set(re.findall(r"`(pfs_\w+)`", table)) == NAMES
-
-
 # The files
 
 def test_the_library_exports_only_the_names_of_the_header(libpfs: Library) -> None:
@@ -202,8 +186,9 @@ def test_the_library_exports_only_the_names_of_the_header(libpfs: Library) -> No
 
 
 def test_the_library_needs_only_the_c_library(libpfs: Library) -> None:
-    """And no executable stack."""
+    """It has no executable stack, and its tables aren't written once it is loaded."""
     got = output_of([tool("readelf"), "--dynamic", "--segments", "--wide", libpfs.path], libpfs.path.parent)
+    assert re.findall(r"^ *(GNU_RELRO)", got, re.MULTILINE) == ["GNU_RELRO"]
     assert re.findall(r"^ *GNU_STACK(?: +0x\w+){5} +([RWE]+)", got, re.MULTILINE) == ["RW"]
     assert re.findall(r"\(NEEDED\).*\[(.*)\]", got) == ["libc.so.6"]
     assert re.findall(r"\(SONAME\).*\[(.*)\]", got) == ["libpfs.so.1"]
@@ -264,18 +249,10 @@ def test_valgrind_finds_nothing_in_any_call(calls: Program, folder: pathlib.Path
 def test_a_failed_allocation_leaves_every_output_unchanged(calls: Program, shim: Shim, folder: pathlib.Path,
                                                            name: str) -> None:
     """Of two calls, the one whose allocation fails returns PFS_MEMORY and leaves every output unchanged. The other one
-    is right. Functions that need no allocation make none besides those of pfs_prepare."""
+    is right. Functions that need no allocation make none besides those of pfs_prepare, also on a large instance."""
     made = allocations(calls, shim, folder, name)
-    prepared = allocations(calls, shim, folder, "prepare")
-    assert name not in FUNCTIONS or (made > prepared) == (name in LOUD + OTHERS[1:])
-
-
-@OF_CALLS
-@pytest.mark.parametrize("call", ["insert", "makespans", "search"])
-def test_calls_on_large_instances_allocate_nothing(calls: Program, shim: Shim, folder: pathlib.Path,
-                                                   call: str) -> None:
-    prepared, made = (allocations(calls, shim, folder, f"{name}_large") for name in ("prepare", call))
-    assert made == prepared > 1
+    prepared = allocations(calls, shim, folder, "prepare_large" if name.endswith("_large") else "prepare")
+    assert prepared > 0 and (made > prepared) == (name in ["prepare_again", *LOUD, *OTHERS[1:]])
 
 
 def allocations(calls: Program, shim: Shim, folder: pathlib.Path, name: str) -> int:
@@ -434,16 +411,13 @@ def is_quick(name: str, arguments: Arguments) -> bool:
 
 
 def assert_same(libpfs: Library, name: str, arguments: Arguments) -> int:
-    """Both libraries return the same number and leave the same bytes in all memory. Returns the number."""
-    answer, due = (named(library, name, arguments) for library in (libpfs.call, second_library.call))
+    """Both libraries return the same number and leave the same bytes in all memory, but for the bytes after the last
+    field of a `struct pfs_block`. Returns the number."""
+    answer, due = libpfs.call(name, *arguments), second_library.call(name, *arguments)
+    if name == "pfs_read":
+        answer.memory[1], due.memory[1] = answer.memory[1][:28], due.memory[1][:28]
     assert answer == due, (name, arguments)
     return answer.number
-
-
-def named(call: Callable[..., Answer], name: str, arguments: Arguments) -> Answer:
-    """What a call returns, without the bytes after the last field of a `struct pfs_block`."""
-    number, memory = call(name, *arguments)
-    return Answer(number, [memory[0], memory[1][:28], *memory[2:]] if name == "pfs_read" else memory)
 
 
 @pytest.mark.quick

@@ -121,38 +121,31 @@ ODD_ORDER_FILES = {
 }
 
 
-@pytest.mark.parametrize("name", ODD_INSTANCES)
-@pytest.mark.parametrize("line", WITH_INSTANCE)
-def test_an_odd_instance(pfs: Program, odd: pathlib.Path, line: str, name: str) -> None:
-    assert pfs.run(line.replace("three", name), odd) == ODD_INSTANCES[name]
+# Each line over an instance or an order file, with these in its place.
+ODD = [(line.replace(usual, name), answer) for usual, lines, odd in (
+    ("three", WITH_INSTANCE, ODD_INSTANCES), ("best", WITH_ORDER, ODD_ORDER_FILES)) for line in lines
+    for name, answer in odd.items()]
 
 
-@pytest.mark.parametrize("name", ODD_ORDER_FILES)
-@pytest.mark.parametrize("line", WITH_ORDER)
-def test_an_odd_order_file(pfs: Program, odd: pathlib.Path, line: str, name: str) -> None:
-    assert pfs.run(line.replace("best", name), odd) == ODD_ORDER_FILES[name]
+@pytest.mark.parametrize(("line", "answer"), ODD, ids=[line for line, _ in ODD])
+def test_an_odd_file(pfs: Program, odd: pathlib.Path, line: str, answer: Ran) -> None:
+    assert pfs.run(line, odd) == answer
 
 
 # Outputs that nobody reads, or that would have to wait
-
-@pytest.fixture
-def unread_end() -> Iterator[int]:
-    """The end of a pipe that nobody reads."""
-    read_end, write_end = os.pipe()
-    os.close(read_end)
-    yield write_end
-    os.close(write_end)
-
 
 BOTH_WAYS = pytest.mark.parametrize("restores", [True, False], ids=["signal as usual", "signal ignored"])
 
 
 @BOTH_WAYS
 @pytest.mark.parametrize("line", EACH.values())
-def test_a_pipe_without_a_reader_is_a_failed_write(pfs: Program, worked: pathlib.Path, unread_end: int, line: str,
+def test_a_pipe_without_a_reader_is_a_failed_write(pfs: Program, worked: pathlib.Path, line: str,
                                                    restores: bool) -> None:
     """The write fails without SIGPIPE, whether or not the parent process ignores that signal."""
-    assert pfs.run(line, worked, stdout=unread_end, restore_signals=restores) == unwritten(0)
+    read_end, write_end = os.pipe()
+    os.close(read_end)
+    assert pfs.run(line, worked, stdout=write_end, restore_signals=restores) == unwritten(0)
+    os.close(write_end)
 
 
 @BOTH_WAYS

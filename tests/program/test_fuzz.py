@@ -1,7 +1,6 @@
 """Random files and command lines, on which the program and the second program must agree (fuzz.py), for half a minute
 in all, in parallel shares. The fuzzer also has to find a program that differs."""
 import itertools
-import os
 import pathlib
 import re
 import subprocess
@@ -10,13 +9,11 @@ import sys
 import fuzz
 import pytest
 from support.program import Program, Ran
-from support.tools import output_of
+from support.tools import write_script
 
 SHARES = 6
 SECONDS = 4.5
 FUZZ = pathlib.Path(fuzz.__file__)
-# MAKEFLAGS is that of a `make` that runs the tests.
-ENV = {name: value for name, value in os.environ.items() if name not in ("MAKEFLAGS", "MFLAGS")}
 
 
 @pytest.mark.seconds(SECONDS)
@@ -31,40 +28,22 @@ def run_fuzzer(folder: pathlib.Path, *words: str) -> Ran:
     return Ran(done.stdout, done.stderr, done.returncode)
 
 
-def test_a_run_ends_well_after_some_cases(pfs: Program, folder: pathlib.Path) -> None:
-    ran = run_fuzzer(folder, "--program", str(pfs.path), "--seconds", "1", "--seed", "2")
-    assert ran.status == 0 and re.match(rb"seed 2: [1-9][0-9]* cases in 1 s, ", ran.stdout), ran
+@pytest.mark.parametrize(("seconds", "status", "count"), [(1, 0, "[1-9][0-9]*"), (0, 1, "0")])
+def test_a_run_without_cases_fails(pfs: Program, folder: pathlib.Path, seconds: int, status: int, count: str) -> None:
+    ran = run_fuzzer(folder, "--program", str(pfs.path), "--seconds", str(seconds), "--seed", "2")
+    printed = f"seed 2: {count} cases in {seconds} s, on which both programs agree\n"
+    assert (ran.stderr, ran.status) == (b"", status) and re.fullmatch(printed.encode(), ran.stdout), ran
 
 
-def test_a_run_without_cases_fails(pfs: Program, folder: pathlib.Path) -> None:
-    ran = run_fuzzer(folder, "--program", str(pfs.path), "--seconds", "0", "--seed", "1")
-    assert ran == Ran(b"seed 1: 0 cases in 0 s, on which both programs agree\n", b"", 1)
-
-
-@pytest.fixture
-def other(pfs: Program, folder: pathlib.Path) -> pathlib.Path:
-    """A program that does what pfs does, but ends with status 2 instead of 3."""
-    script = folder / "other"
-    script.write_text(f'#!/bin/sh\n{pfs.path} "$@"\nstatus=$?\n[ $status = 3 ] && exit 2\nexit $status\n')
-    script.chmod(0o755)
-    return script
-
-
-def test_a_program_that_differs_is_found(other: pathlib.Path, folder: pathlib.Path,
-                                         monkeypatch: pytest.MonkeyPatch) -> None:
-    """With its files, and a command that repeats it."""
+def test_a_program_that_differs_is_found(pfs: Program, folder: pathlib.Path, monkeypatch: pytest.MonkeyPatch) -> None:
+    """With its files, and a command that repeats it. It does what pfs does, but ends with status 2 instead of 3."""
+    other = write_script(folder / "other", f'#!/bin/sh\n{pfs.path} "$@"\nstatus=$?\n[ $status != 3 ] || exit 2\n'
+                                           "exit $status\n")
     monkeypatch.setenv("TMPDIR", str(folder))
     ran = run_fuzzer(folder, "--program", str(other), "--seed", "1")
     assert ran.status == 1 and b"the programs differ" in ran.stdout, ran
     [made] = folder.glob("pfs-differs-*")
     assert b"in a shell: cd %s && " % bytes(made) in ran.stdout
-    repeating = re.search(rb"to repeat it: \S+ (.*)", ran.stdout)
-    assert repeating
-    again = run_fuzzer(folder, *repeating[1].decode().split())
+    [repeating] = re.findall(rb"to repeat it: \S+ (.*)", ran.stdout)
+    again = run_fuzzer(folder, *repeating.decode().split())
     assert again.status == 1 and re.search(rb"wanted .*, 3\ngot    .*, 2\n", again.stdout), again
-
-
-@pytest.mark.parametrize(("minutes", "seconds"), [([], 300), (["MINUTES=1"], 60), (["MINUTES=60"], 3600)])
-def test_make_runs_it_for_so_many_minutes(top: pathlib.Path, minutes: list[str], seconds: int) -> None:
-    line = output_of(["make", "-n", "fuzz", *minutes], top, env=ENV).splitlines()[-1]
-    assert output_of(["sh", "-c", f"echo {line}"], top) == f"tests/fuzz.py --seconds {seconds}\n"

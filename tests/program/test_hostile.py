@@ -108,16 +108,11 @@ ONE_LINE = pytest.mark.xdist_group("one line")
 
 @ONE_LINE
 @pytest.mark.seconds(3)
-@pytest.mark.parametrize("command", [command for command in COMMANDS if command != "value"])
+@pytest.mark.parametrize("command", ["without arguments", *(command for command in COMMANDS if command != "value")])
 def test_a_line(pfs: Program, folder: pathlib.Path, line: pathlib.Path, command: str) -> None:
     (folder / "best").write_bytes(FILES["best"])
-    run_large(pfs, words_of(command, line, folder / "best"), folder, ANSWERS[EACH[command]].stdout)
-
-
-@ONE_LINE
-@pytest.mark.seconds(3)
-def test_a_line_as_input(pfs: Program, folder: pathlib.Path, line: pathlib.Path) -> None:
-    run_large(pfs, [], folder, ELEVEN, stdin=line)
+    words = words_of(command, line, folder / "best") if command in EACH else []
+    run_large(pfs, words, folder, ANSWERS[EACH[command]].stdout if words else ELEVEN, stdin=line)
 
 
 # The greatest instance

@@ -23,16 +23,6 @@ def test_no_function_of_this_module_is_called(pfs: Program, module: str) -> None
     assert {name for name in called - WITHOUT_CELLS if not name.endswith("+Destruct::drop")} == set()
 
 
-def loops(pfs: Program, loop: str) -> list[str] | None:
-    """The instructions of each instance of a loop of a wavefront; None of a program without symbols, as in a
-    package."""
-    words = [tool("objdump"), "--disassemble", "--no-show-raw-insn", str(pfs.path)]
-    done = subprocess.run(words, capture_output=True, text=True, check=True)
-    if "<pfs_" not in done.stdout:
-        return None
-    return re.findall(rf"^[0-9a-f]+ <pfs_wave::{loop}\b.*>:\n((?:.+\n)+)", done.stdout, re.MULTILINE)
-
-
 # The loops, and how many instances of each the program has. There are seven numbers of vectors, and two sizes of stored
 # times. Passes have lanes of 16 and 32 bits for times of 16, and of 32 and 64 for times of 32.
 LOOPS = {"times::fill_times": 14, "tails::fill_tails": 28, "sums::fill_sums": 28}
@@ -48,11 +38,11 @@ def calls(body: str) -> list[tuple[str, bool]]:
 @pytest.mark.parametrize("loop", LOOPS)
 def test_a_loop_of_a_wavefront_calls_nothing(pfs: Program, loop: str) -> None:
     """Before its loop a function clears long arrays of vectors by `memset`, and copies them by `memcpy`. A program
-    without symbols can't be tested and passes."""
-    functions = loops(pfs, loop)
-    if functions is None:
-        return
-    assert len(functions) == LOOPS[loop]
+    without symbols, as in a package, can't be tested and passes."""
+    words = [tool("objdump"), "--disassemble", "--no-show-raw-insn", str(pfs.path)]
+    done = subprocess.run(words, capture_output=True, text=True, check=True)
+    functions = re.findall(rf"^[0-9a-f]+ <pfs_wave::{loop}\b.*>:\n((?:.+\n)+)", done.stdout, re.MULTILINE)
+    assert len(functions) == LOOPS[loop] or "<pfs_" not in done.stdout
     for body in functions:
         for call, again in calls(body):
             assert not again and call.endswith(("<memset@plt>", "<memcpy@plt>")), call

@@ -39,20 +39,14 @@ def shops(scripts: pathlib.Path, pfs: Program, tmp_path_factory: pytest.TempPath
     return folder / "shops"
 
 
-def test_the_list_has_ten_instances_of_each_size(listed: Listed, best_known: dict[str, int]) -> None:
-    """And their best known makespans."""
-    assert list(listed) == NAMES
-    assert [(int(row["jobs"]), int(row["machines"])) for row in listed.values()] \
-        == [size for size in SIZES for _ in range(10)]
-    assert [name for name, span in best_known.items() if span < int(listed[name]["lower_bound"])] == []
-
-
 @pytest.mark.parametrize("name", NAMES)
 def test_the_bound_is_the_published_one(name: str, listed: Listed, shops: pathlib.Path, pfs: Program,
                                         folder: pathlib.Path) -> None:
-    """With the times of the recurrence."""
-    assert sorted(os.listdir(shops)) == NAMES
-    jobs, machines, seed = (int(listed[name][key]) for key in ("jobs", "machines", "time_seed"))
+    """With the times of the recurrence. There are ten instances of each size."""
+    assert sorted(os.listdir(shops)) == [*listed] == NAMES
+    jobs, machines, seed, best, bound = (int(listed[name][key]) for key in (
+        "jobs", "machines", "time_seed", "best_makespan", "lower_bound"))
+    assert (jobs, machines) == SIZES[NAMES.index(name) // 10] and best >= bound
     assert (shops / name).read_bytes() == generated(jobs, machines, seed)
     value = pfs.run(["value", "--layout", "taillard", str(shops / name)], folder)
     numbers = " ".join(str(job) for job in range(1, jobs + 1))
@@ -148,8 +142,7 @@ def test_the_page_has_the_deviations_of_searches(rounds: int, passes: int, best_
         span = int(ran.stdout.split()[-1])
         assert span >= best, "a makespan below the best known one"
         deviations[size].append(100 * (span - best) / best)
-    row = re.search(rf"^\| {rounds:,}(?: \(NEH\))? \|(.*)\|$", tables_of(top)[TABLE_PASSES.index(passes)], re.MULTILINE)
-    assert row, f"no row of {rounds} rounds"
-    printed = [cell.strip() for cell in row[1].split("|")][1::2]
+    row, = re.findall(rf"^\| {rounds:,}(?: \(NEH\))? \|(.*)\|$", tables_of(top)[passes], re.MULTILINE)
+    printed = [cell.strip() for cell in row.split("|")][1::2]
     for some, text in zip(deviations.values(), printed, strict=True):
         assert re.fullmatch(r"\d+\.\d\d", text) and abs(statistics.fmean(some) - float(text)) < 0.0051, printed

@@ -130,39 +130,26 @@ def test_a_large_search_has_the_makespan_of_its_order(pfs: Program, folder: path
 MOST_MACHINES = [8, 16, 24, 40, 64, 104, 200]
 
 
-def extreme(jobs: int, machines: int, longest: int) -> Instance:
-    """An instance of the shortest and the longest times, so that some paths weigh nearly as much as any can."""
-    random = Random(f"{jobs} {machines} {longest}")
-    return shop_of(jobs, machines, [longest, *random.choices([0, 1, longest - 1, longest], k=jobs * machines - 1)])
-
-
 def around_limits(jobs: int, machines: int) -> list[Instance]:
     """Instances whose longest possible path is just below and just above what lanes of 16 and of 32 bits hold, whose
-    longest time is just below and just above what is stored in 16 bits, and one of the longest times of all."""
-    path = jobs + machines - 1
-    return [extreme(jobs, machines, longest) for longest in (65_534 // path, 65_535 // path + 1, 65_535, 65_536,
-                                                             (2**32 - 2) // path, 2**32 // path + 1, 1_000_000_000)]
+    longest time is just below and just above what is stored in 16 bits, and one of the longest times of all. They have
+    the shortest and the longest times, so that some paths weigh nearly as much as any can."""
+    path, random = jobs + machines - 1, Random(f"{jobs} {machines}")
+    return [shop_of(jobs, machines, [most, *random.choices([0, 1, most - 1, most], k=jobs * machines - 1)])
+            for most in (65_534 // path, 65_535 // path + 1, 65_535, 65_536, (2**32 - 2) // path, 2**32 // path + 1,
+                         1_000_000_000)]
 
 
-@pytest.mark.seconds(5)
+@pytest.mark.seconds(10)
 @pytest.mark.parametrize("machines", MOST_MACHINES)
 def test_what_both_compilers_build_prints_what_the_second_program_does(pfs: Program, pfs_by_rattle: Program,
                                                                        folder: pathlib.Path, machines: int) -> None:
-    options = {b"--take": 3, b"--rounds": 3, b"--seed": 7, b"--passes": 1, b"--cells": True}
-    for shop in around_limits(9, machines):
+    """And both the same of instances that are too large for that."""
+    for shop in [*around_limits(9, machines), *around_limits(60, machines)]:
+        rounds = 3 if shop.jobs == 9 else 20
+        options = {b"--take": 3, b"--rounds": rounds, b"--seed": 7, b"--passes": 1, b"--cells": True}
         (folder / "shop").write_bytes(second_program.canonical(shop, b"taillard"))
-        line = "solve --layout taillard --take 3 --rounds 3 --seed 7 --passes 1 --cells shop"
-        wanted = Ran(second_program.solved(shop, options), b"", 0)
-        assert [built.run(line, folder) for built in (pfs, pfs_by_rattle)] == [wanted, wanted]
-
-
-@pytest.mark.seconds(5)
-@pytest.mark.parametrize("machines", MOST_MACHINES)
-def test_what_both_compilers_build_prints_the_same(pfs: Program, pfs_by_rattle: Program, folder: pathlib.Path,
-                                                   machines: int) -> None:
-    """Of instances that are too large for the second program."""
-    for shop in around_limits(60, machines):
-        (folder / "shop").write_bytes(second_program.canonical(shop, b"taillard"))
-        line = "solve --layout taillard --rounds 20 --passes 1 --cells shop"
+        line = f"solve --layout taillard --take 3 --rounds {rounds} --seed 7 --passes 1 --cells shop"
         ran = pfs.run(line, folder)
         assert ran.status == 0 and pfs_by_rattle.run(line, folder) == ran
+        assert shop.jobs > 9 or ran.stdout == second_program.solved(shop, options)

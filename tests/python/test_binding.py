@@ -24,16 +24,17 @@ import pytest
 from pfs import _library
 from pfs._faults import INSTANCE_FAULTS
 from support import plainly
+from support.needs import tool
 from support.tools import TOP
 
+# The numbers of preparations and of releases so far.
+Counts = Callable[[], list[int]]
 MAJOR = int(pfs.__version__.split(".")[0])
 LOADING = "import pfs, pfs._library; print(pfs._library.PATH, pfs.__version__)"
 
 
 def library_of(version: str, folder: pathlib.Path, without: str = "") -> pathlib.Path:
     """A library of this version whose functions do nothing; one of them is missing."""
-    if shutil.which("gcc") is None:
-        pytest.skip("gcc isn't installed (Debian: gcc)")
     text = (TOP / "lib" / "pfs.h").read_text()
     header, count = re.subn(r'(?m)^#define PFS_VERSION ".*"$', f'#define PFS_VERSION "{version}"', text)
     assert count == 1
@@ -41,9 +42,8 @@ def library_of(version: str, folder: pathlib.Path, without: str = "") -> pathlib
     shutil.copy(TOP / "lib" / "pfs_text.c", folder)
     names = [name for name in _library.PROTOTYPES if name != without]
     (folder / "nothing.c").write_text("".join(f"int {name}(void) {{ return 0; }}\n" for name in names))
-    words = ["gcc", "-shared", "-fPIC", f"-I{folder}", "-o", str(folder / "libpfs.so.1"), str(folder / "pfs_text.c"),
-             str(folder / "nothing.c")]
-    subprocess.run(words, check=True)
+    sources = [folder / name for name in ("pfs_text.c", "nothing.c")]
+    subprocess.run([tool("gcc"), "-shared", "-fPIC", f"-I{folder}", "-o", folder / "libpfs.so.1", *sources], check=True)
     return folder / "libpfs.so.1"
 
 
@@ -63,7 +63,7 @@ def test_a_library_of_another_version_is_rejected(tmp_path: pathlib.Path, versio
         (f"{library} {pfs.__version__}\n", []) if fits else ("", [got])), f"a library of version {version}"
 
 
-@pytest.mark.parametrize("what", [*_library.PROTOTYPES, None, b"", b"no library"])
+@pytest.mark.parametrize("what", ["pfs_prepare", "pfs_write_order", None, b"", b"no library"])
 def test_a_library_without_a_function_and_a_file_that_is_none_are_rejected(tmp_path: pathlib.Path,
                                                                            what: str | bytes | None) -> None:
     """When it is loaded, and not when the function is called."""
@@ -76,18 +76,14 @@ def test_a_library_without_a_function_and_a_file_that_is_none_are_rejected(tmp_p
     assert got.endswith("): PFS_LIBRARY names it")
 
 
-def test_a_library_that_is_missing(tmp_path: pathlib.Path, monkeypatch: pytest.MonkeyPatch) -> None:
-    monkeypatch.delenv("PFS_LIBRARY", raising=False)
-    with pytest.raises(ImportError, match="set PFS_LIBRARY to the path of"):
-        _library.load(str(tmp_path / "none"))
-
-
 def test_the_library_that_the_variable_names_goes_before_the_packages(monkeypatch: pytest.MonkeyPatch,
                                                                      tmp_path: pathlib.Path) -> None:
     """Then the one in the package, as a wheel has it, and then the system's."""
     monkeypatch.setattr(_library, "__file__", str(tmp_path / "_library.py"))
     monkeypatch.delenv("PFS_LIBRARY", raising=False)
     assert _library.path_of_library() == "libpfs.so.1"
+    with pytest.raises(ImportError, match="set PFS_LIBRARY to the path of"):
+        _library.load(str(tmp_path / "none"))
     (tmp_path / "libpfs.so.1").touch()
     assert _library.path_of_library() == str(tmp_path / "libpfs.so.1")
     monkeypatch.setenv("PFS_LIBRARY", "")
@@ -108,8 +104,6 @@ def test_the_numbers_limits_and_functions_are_those_of_the_header() -> None:
     assert {number: name for number, (name, _) in INSTANCE_FAULTS.items()} == {at: names[at] for at in range(20, 29)}
     assert _library.LAYOUTS == {"taillard": defined["TAILLARD"], "orlib": defined["ORLIB"]}
     assert (_library.MOST_NOTE, _library.MOST_SEED) == (2**32 - 1, 2**64 - 1)
-    version = re.search(r'^#define PFS_VERSION "(.*)"$', text, re.MULTILINE)
-    assert version and version[1] == pfs.__version__
     types = {"size_t": "c_ulong", "uint32_t": "c_uint", "uint64_t": "c_ulong", "int": "c_int"}
     header = re.sub(r"/\*.*?\*/", "", (TOP / "lib" / "pfs.h").read_text(), flags=re.DOTALL)
     declared = dict(re.findall(r"^(?:int|void) (pfs_\w+)\((.*?)\)(?: PFS_CHECKED)?;", header,
@@ -134,33 +128,26 @@ def test_modules_that_need_no_library_are_imported_without_one(tmp_path: pathlib
 # Instances that the library has prepared
 
 @pytest.fixture
-def counted(monkeypatch: pytest.MonkeyPatch) -> dict[str, int]:
-    """The number of calls of these functions. Instances of earlier tests are released before."""
+def counted(monkeypatch: pytest.MonkeyPatch) -> Counts:
+    """Instances of earlier tests are released before."""
     gc.collect()
-    counts = {"pfs_prepare": 0, "pfs_release": 0}
-
-    def counting(name: str, real: Callable[..., Any]) -> Callable[..., Any]:
-        def call(*given: Any) -> Any:
-            counts[name] += 1
-            return real(*given)
-        return call
-
-    for name in counts:
-        monkeypatch.setattr(_library.library, name, counting(name, getattr(_library.library, name)))
-    return counts
+    calls = {name: mock.Mock(wraps=getattr(_library.library, name)) for name in ("pfs_prepare", "pfs_release")}
+    for name, call in calls.items():
+        monkeypatch.setattr(_library.library, name, call)
+    return lambda: [call.call_count for call in calls.values()]
 
 
-def test_an_instance_is_prepared_once_and_released_with_it(counted: dict[str, int]) -> None:
+def test_an_instance_is_prepared_once_and_released_with_it(counted: Counts) -> None:
     shop = pfs.generate(12, 4, 1)
-    assert counted == {"pfs_prepare": 0, "pfs_release": 0}, "before the first call"
+    assert counted() == [0, 0], "before the first call"
     order = shop.neh()
     shop.makespan(order), shop.best_place(range(11), 11), shop.bound(), shop.schedule(order), shop.to_text()
     shop.places([0, 1], 2), shop.makespans([[0, 1]]), shop.insert_all([0], [1]), shop.local_search([1, 0])
     shop.solve(50)
-    assert counted == {"pfs_prepare": 1, "pfs_release": 0}
+    assert counted() == [1, 0]
     del shop
     gc.collect()
-    assert counted == {"pfs_prepare": 1, "pfs_release": 1}
+    assert counted() == [1, 1]
 
 
 @pytest.mark.parametrize("name", ["Handle", "c_size_t", "byref", "np", "c_void_p", "done"])
@@ -178,14 +165,14 @@ def test_an_interruption_of_the_preparation_leaves_nothing_to_release(name: str,
 
 
 @pytest.mark.parametrize("again", [copy.copy, copy.deepcopy, lambda shop: pickle.loads(pickle.dumps(shop))])
-def test_a_copy_prepares_its_own(counted: dict[str, int], again: Callable[[pfs.Instance], pfs.Instance]) -> None:
+def test_a_copy_prepares_its_own(counted: Counts, again: Callable[[pfs.Instance], pfs.Instance]) -> None:
     shop = pfs.generate(12, 4, 1)
     due = shop.makespan(range(12))
     other = again(shop)
-    assert counted["pfs_prepare"] == 1
+    assert counted()[0] == 1
     del shop
     gc.collect()
-    assert other.makespan(range(12)) == due and counted == {"pfs_prepare": 2, "pfs_release": 1}
+    assert other.makespan(range(12)) == due and counted() == [2, 1]
 
 
 def test_threads_share_no_result() -> None:
@@ -204,7 +191,7 @@ def test_threads_share_no_result() -> None:
         assert all(threads.map(many, range(8)))
 
 
-def test_threads_on_one_instance_do_not_wait_for_each_other(counted: dict[str, int],
+def test_threads_on_one_instance_do_not_wait_for_each_other(counted: Counts,
                                                             monkeypatch: pytest.MonkeyPatch) -> None:
     """A call returns while another one is made, for which it prepares the instance once more."""
     shop, begun, ended = pfs.generate(12, 4, 1), threading.Event(), threading.Event()
@@ -219,10 +206,10 @@ def test_threads_on_one_instance_do_not_wait_for_each_other(counted: dict[str, i
     with ThreadPoolExecutor(1) as threads:
         found = threads.submit(shop.solve, 1)
         assert begun.wait(30)
-        assert [shop.makespan(range(12)) for _ in range(3)] == [due] * 3 and counted["pfs_prepare"] == 2
+        assert [shop.makespan(range(12)) for _ in range(3)] == [due] * 3 and counted()[0] == 2
         ended.set()
         assert found.result().rounds == 1
-    assert shop.makespan(range(12)) == due and counted["pfs_prepare"] == 2
+    assert shop.makespan(range(12)) == due and counted()[0] == 2
 
 
 @pytest.mark.skipif(not hasattr(os, "fork"), reason="needs fork")
@@ -261,14 +248,9 @@ def test_nothing_is_printed_when_python_ends_with_an_instance(tmp_path: pathlib.
 
 # A call from Python costs little more than what it computes
 
-def microseconds(call: Callable[[], object]) -> float:
-    """The best of many short runs, since other programs run too."""
-    return min(timeit.repeat(call, number=50, repeat=100)) / 50 * 1e6
-
-
 @pytest.mark.parametrize("kind", ["list", "int64", "uint32"])
 def test_a_call_for_20_jobs_on_5_machines(kind: str, untraced: None) -> None:
-    """3 microseconds on a machine that does nothing else."""
+    """3 microseconds on a machine that does nothing else. The best of many short runs, since other programs run."""
     shop = pfs.taillard(1)
     order = shop.neh().order
     given = order.tolist() if kind == "list" else np.array(order, dtype=kind)
@@ -276,7 +258,8 @@ def test_a_call_for_20_jobs_on_5_machines(kind: str, untraced: None) -> None:
     calls: dict[str, Callable[[], object]] = {
         "makespan": lambda: shop.makespan(given), "best_place": lambda: shop.best_place(others, job)}
     for name, call in calls.items():
-        assert (took := microseconds(call)) < 8, f"{name}: {took:.1f} microseconds"
+        took = min(timeit.repeat(call, number=50, repeat=100)) / 50 * 1e6
+        assert took < 8, f"{name}: {took:.1f} microseconds"
 
 
 def test_many_orders_and_places_cost_little_more_than_the_library(untraced: None) -> None:

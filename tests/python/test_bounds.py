@@ -5,7 +5,6 @@ with; NumPy 1.24 has a switch for it."""
 import os
 import pathlib
 import re
-import shutil
 import subprocess
 import sys
 from collections.abc import Iterator
@@ -13,6 +12,7 @@ from collections.abc import Iterator
 import numpy as np
 import pytest
 from pfs import _library
+from support.needs import tool
 from support.tools import TOP
 
 # so that the library that touches all memory is compiled once
@@ -67,12 +67,10 @@ def functions() -> Iterator[str]:
 @pytest.fixture(scope="module")
 def touching(tmp_path_factory: pytest.TempPathFactory) -> dict[str, str]:
     """The variables with which the package loads the library that touches all memory."""
-    if shutil.which("gcc") is None:
-        pytest.skip("gcc isn't installed (Debian: gcc)")
     folder = tmp_path_factory.mktemp("touching")
     (folder / "touching.c").write_text(HEAD + "".join(functions()))
     library = folder / "libpfs.so.1"
-    subprocess.run(["gcc", *FLAGS, "-Wall", "-Werror", f"-I{TOP / 'lib'}", "-o", library, folder / "touching.c"],
+    subprocess.run([tool("gcc"), *FLAGS, "-Wall", "-Werror", f"-I{TOP / 'lib'}", "-o", library, folder / "touching.c"],
                    check=True)
     asan = subprocess.run(["gcc", "-print-file-name=libasan.so"], capture_output=True, text=True).stdout.strip()
     return {"LD_PRELOAD": asan, "PYTHONMALLOC": "malloc", "ASAN_OPTIONS": "detect_leaks=0",

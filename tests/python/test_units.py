@@ -17,7 +17,7 @@ import pfs
 import pytest
 from pfs import _cli, _drawing, _gantt, _library, _tables, _workbooks
 from pfs._calendar import DAYS
-from pfs._commands import words
+from pfs._commands import plan_words, words
 from pfs._names import seconds_in
 from pfs._version import VERSION
 from pfs.experiments import ExperimentError, plan, run, stage
@@ -51,19 +51,26 @@ def test_errors_of_a_program(error: BaseException, status: int, said: str, capsy
 
 def test_the_help_has_no_word_that_is_nowhere_else() -> None:
     """In the pages, the manuals and the tests: no word is cut or misspelled. Texts of options also end with two words
-    that are there one after the other, or go on, default all, in TOML, and source, in inches, or no titles."""
+    that are there one after the other, or go on, default all, in TOML, and source, in inches, or no titles. Each
+    option has a text, and is in the manual page."""
     pages = [*TOP.glob("*.md"), *(path for folder in ("docs", "share", "python", "experiments", "tests")
                                   for ending in ("md", "1", "py") for path in (TOP / folder).rglob(f"*.{ending}")
                                   if path.suffix != ".py" or folder == "tests")]
     pairs = {pair for page in pages for pair in pairwise(re.findall("[a-z0-9]+", page.read_text().lower()))}
     known = {word for pair in pairs for word in pair}
-    for name, parser in {"python3 -m pfs": words(), "pfs-gantt": _gantt.words(), "pfs-web": web_words(),
-                         "pfs-experiments": command_line()}.items():
+    for name, parser in {"python3 -m pfs": words(), "pfs-plan": plan_words(), "pfs-gantt": _gantt.words(),
+                         "pfs-web": web_words(), "pfs-experiments": command_line()}.items():
         assert parser.format_usage().startswith(f"usage: {name} "), "the name of a program"
+        if name in ("pfs-plan", "pfs-web"):
+            page = (TOP / "python" / f"{name}.1").read_text().replace("Ar SIGN", "Ar DECIMAL")
+            due = {each.option_strings[-1][1:]: "" if each.nargs == 0 else each.metavar or each.dest.upper()
+                   for each in parser._actions[1:] if each.option_strings}
+            assert dict(re.findall(r"^\.It Fl (-[\w-]+)(?: Ar (\S+))?$", page, re.MULTILINE)) == due, name
         commands: dict[str, Any] = next((each.choices for each in parser._actions
                                          if isinstance(each.choices, dict)), {})
         for each in (parser, *commands.values()):
             assert {*re.findall(r"[a-z]{2,}", re.sub("-\n *", "-", each.format_help()).lower())} <= known, each.prog
+            assert [it.dest for it in each._actions if it.option_strings and not it.help] == [], each.prog
             ends = (re.findall("[a-z0-9]+", (action.help or "").lower())[-2:] for action in each._actions)
             assert {(*end,) for end in ends if len(end) == 2} <= pairs, each.prog
     shown = " ".join(parser.format_help().split())
@@ -312,7 +319,7 @@ def test_more_jobs_than_pixels_of_a_row_are_an_image() -> None:
 
 
 def test_a_page_has_what_its_script_reads(tmp_path: pathlib.Path) -> None:
-    """And nothing else: each field of the data by its name, with dates and without. Colours are by job numbers."""
+    """And nothing else: each field of the data by its name, with dates and without."""
     script = TOP.joinpath("python/src/pfs/chart.html").read_text()
     calendar = pfs.Calendar("2026-11-30T12:00", shifts="06:00-14:00", closed="2026-12-02")
     made = pfs.Instance([[300, 30], [20, 500]], unit="min").schedule([1, 0])
@@ -320,21 +327,11 @@ def test_a_page_has_what_its_script_reads(tmp_path: pathlib.Path) -> None:
         made.plot(tmp_path / "chart.html", critical=True, bound=540, calendar=given)
         data = json.loads(re.findall(r'id="data">(.*?)</script>', (tmp_path / "chart.html").read_text())[0])
         assert data.keys() == {*re.findall(r"\btable\.(\w+)", script)}
-        plain = dict.fromkeys(("words", "dates", "breaks", "steps")) | {
-            "jobs": ["1", "0"], "machines": ["0", "1"], "starts": [[0, 20], [20, 520]], "ends": [[20, 320], [520, 550]],
-            "makespan": 550, "bound": 540, "critical": [[0, 0, 0], [1, 0, 1]], "shares": ["42 %", "4 %"], "unit": "min",
-            "decimals": 0, "fills": ["#5a7800", "#326ebe"], "inks": ["white"] * 2, "idle": "#d9d9d9", "isNamed": False,
-            "sign": "#"}
-        assert data | dict.fromkeys(("words", "dates", "breaks", "steps")) == plain
         assert given or (data["dates"], data["breaks"], data["steps"]) == (None, [], [])
     named = {*re.findall(r"\btable\.dates\.(\w+)", script)}
     for fields in re.findall(r"const \{([^}]*)\} = table\.dates", script):
         named |= {*fields.split(", ")}
     assert data["dates"].keys() == named
-    assert data["dates"] | {"scale": ""} == {
-        "times": 1, "microseconds": 60_000_000, "spans": [[*span] for span in calendar.spans], "loop": calendar.loop,
-        "digits": -1, "scale": ""}
-    assert data["breaks"][:2] == [[0, "Mon 2026-11-30"], [120, "Tue 2026-12-01"]]
     said = {*re.findall(r'\bsay\("([^"]+)"\)', script), "job", "machine", "start", "end"}
     assert data["words"] == {text: text for text in {*said, *(day.title() for day in DAYS)}}
 
@@ -389,23 +386,20 @@ def test_the_names_and_the_proxy_of_a_server(tmp_path: pathlib.Path, monkeypatch
         "0.0.0.0", "127.0.0.1", {"x-forwarded-for"})
 
 
-@pytest.mark.parametrize(("text", "is_taken"), [
-    ("a" * 19, False), ("aZ09_-" * 4, True), ("a" * 201, False), ("a" * 20 + "\u00e4", False),
-    ("a" * 20 + " a", False)])
-def test_tokens(text: str, is_taken: bool, tmp_path: pathlib.Path) -> None:
+@pytest.mark.parametrize("text", ["a" * 19, "a" * 201, "a" * 20 + "\u00e4", "a" * 20 + " a"])
+def test_tokens_that_are_rejected(text: str, tmp_path: pathlib.Path) -> None:
     from pfs.web import __main__ as web
-    (tmp_path / "token").write_text(text)
-    (tmp_path / "token").chmod(0o600)
-    if is_taken:
-        assert web.token_in(str(tmp_path / "token")) == text
-    else:
-        with pytest.raises(_cli.Misused, match="token: a token has 20 to 200 letters, digits, - and _$"):
-            web.token_in(str(tmp_path / "token"))
-    assert web.token_in(None) != web.token_in(None)
+    path = tmp_path / "token"
+    path.write_text(text)
+    path.chmod(0o600)
+    with pytest.raises(_cli.Misused, match="token: a token has 20 to 200 letters, digits, - and _$"):
+        web.token_in(str(path))
+    path.write_text("aZ09_-" * 4)
+    assert web.token_in(str(path)) == "aZ09_-" * 4 and web.token_in(None) != web.token_in(None)
     for mode in (0o604, 0o602, 0o601):
-        (tmp_path / "token").chmod(mode)
+        path.chmod(mode)
         with pytest.raises(_cli.Misused, match="other users can read the token"):
-            web.token_in(str(tmp_path / "token"))
+            web.token_in(str(path))
 
 
 EVENT = """BEGIN:VEVENT
@@ -439,6 +433,35 @@ def test_a_calendar_file_is_this_text(tmp_path: pathlib.Path) -> None:
         seen += re.findall(r"UID:([0-9a-f]{24})@pfs\r", text + pathlib.Path(other).read_bytes().decode())
     assert [pathlib.Path(path).name for path in (one, other)] == ["other-saw, left.ics", "other-Saw, left (2).ics"]
     assert seen[:3] == seen[3:6] and len({*seen}) == 6 and len(seen) == 9
+
+
+def events(path: pathlib.Path) -> list[tuple[str, str, datetime.datetime, datetime.datetime]]:
+    """The events of a calendar file, as python3-icalendar reads them."""
+    require_module("icalendar")
+    import icalendar
+    content = path.read_bytes()
+    assert all(len(line) <= 75 for line in content.split(b"\r\n"))
+    read: Any = icalendar.Calendar.from_ical(content)
+    return [(str(event["SUMMARY"]), str(event["UID"]), event["DTSTART"].dt, event["DTEND"].dt)
+            for event in read.walk("VEVENT")]
+
+
+def test_each_machine_has_a_calendar(tmp_path: pathlib.Path) -> None:
+    """Work goes on in the next shift, and what takes no time is no event."""
+    names = ["chair, red; \u00e4" + "\u00e4" * 60, "table\\2"]
+    shop = pfs.Instance([[300, 0], [250, 400]], job_names=names, machine_names=["saw/1", "drill"], unit="min")
+    calendar = pfs.Calendar("2026-11-30T06:00", shifts="06:00-14:00")
+    paths = shop.schedule([1, 0]).to_ics(tmp_path / "plan.ics", calendar)
+    assert paths == [str(tmp_path / "plan-saw-1.ics"), str(tmp_path / "plan-drill.ics")]
+    saw, drill = (events(pathlib.Path(path)) for path in paths)
+    day = datetime.datetime(2026, 11, 30)
+    hours = [tuple((moment - day) / datetime.timedelta(minutes=1) for moment in event[2:]) for event in [*saw, *drill]]
+    assert hours == [(360, 610), (610, 840), (1800, 1870), (610, 840), (1800, 1970)]
+    assert [event[0] for event in [*saw, *drill]] == [names[at] for at in (1, 0, 0, 1, 1)]
+    assert all(event[2].tzinfo is None for event in saw) and len({event[1] for event in [*saw, *drill]}) == 5
+    # Imported again, events replace the earlier ones.
+    shop.schedule([0, 1]).to_ics(tmp_path / "plan.ics", calendar)
+    assert {event[:2] for event in events(tmp_path / "plan-saw-1.ics")} & {event[:2] for event in saw}
 
 
 @pytest.mark.parametrize(("key", "what"), {

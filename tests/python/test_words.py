@@ -15,18 +15,15 @@ TABLE = "job [min];saw;drill\ntable;300;200\nchair;250;400\n"
 DATES = ["--begin", "2026-11-30T06:00", "--shift", "06:00-14:00"]
 
 
-def german() -> dict[str, str]:
-    return _words.texts_in((importlib.resources.files("pfs") / _words.GERMAN).read_bytes(), "", None)
-
-
 def test_each_text_is_in_the_table_and_each_of_the_table_is_said() -> None:
+    german = _words.texts_in((importlib.resources.files("pfs") / _words.GERMAN).read_bytes(), "", None)
     sources = {path.name: path.read_text("utf-8") for path in pathlib.Path(pfs.__file__).parent.iterdir()
                if path.suffix in (".py", ".html")}
     said = set(re.findall(r"say\([\"']([^\"']+)[\"']\)", "".join(sources.values())))
     said |= {" ".join(text.split()) for text in re.findall("{{=([^}]+)}}", sources["chart.html"])}
     said |= {*pfs._report.OPERATIONS, *pfs._report.JOBS, *pfs._report.PLACES, *pfs._report.MACHINES, *PAGE_WORDS,
              "units of the instance", "date and time", "date and time, in shifts only"}
-    assert said == german().keys()
+    assert said == german.keys()
 
 
 @pytest.fixture

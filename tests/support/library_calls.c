@@ -14,6 +14,7 @@
 #include <string.h>
 
 #include "pfs.h"
+#include "pfs.h" /* which may be read twice */
 
 #define COUNT(list) (sizeof(list) / sizeof *(list))
 #define IS(word) (strcmp(name, word) == 0)

@@ -6,12 +6,10 @@ import importlib.util
 import os
 import pathlib
 import shutil
-import signal
 from collections.abc import Generator
 from typing import Any, NamedTuple, NoReturn
 
 import pytest
-from _pytest.assertion import truncate
 
 # The Debian packages.
 LIST = pathlib.Path(__file__).resolve().parents[2] / "tools" / "packages"
@@ -34,17 +32,6 @@ def packages() -> list[Package]:
 def package_of(name: str) -> str | None:
     """The package that provides this command or module, or None for a name that the list doesn't have."""
     return next((package.name for package in packages() if name in package.provides), None)
-
-
-def prepare_process() -> None:
-    """What tests of all folders need of the process that runs them."""
-    # What a failing assertion says is cut off after 8 lines otherwise. Since pytest 8.4 there is a setting for it.
-    truncate.DEFAULT_MAX_LINES, truncate.DEFAULT_MAX_CHARS = 60, 6_000
-    # What runs in the background of a shell ignores it, and so would all that the tests start.
-    if signal.getsignal(signal.SIGINT) == signal.SIG_IGN:
-        signal.signal(signal.SIGINT, signal.default_int_handler)
-    # It would hide that a script doesn't flush what it prints.
-    os.environ.pop("PYTHONUNBUFFERED", None)
 
 
 def tool(command: str) -> str:
@@ -72,11 +59,6 @@ def missing(why: str) -> NoReturn:
     pytest.skip(why)
 
 
-def in_ci() -> bool:
-    """Whether nothing may be skipped."""
-    return os.environ.get("CI") == "true"
-
-
 @pytest.hookimpl(hookwrapper=True)  # type: ignore[misc]  # pluggy has no types
 def pytest_runtest_makereport() -> Generator[None, Any, None]:
     """A test that is skipped in CI has failed."""
@@ -93,7 +75,7 @@ def pytest_make_collect_report() -> Generator[None, Any, None]:
 
 def refuse_skip(report: pytest.TestReport | pytest.CollectReport) -> None:
     """Makes a failure of a skip in CI, with the skip's reason."""
-    if report.skipped and in_ci() and not hasattr(report, "wasxfail"):
+    if report.skipped and os.environ.get("CI") == "true" and not hasattr(report, "wasxfail"):
         why = report.longrepr[2] if isinstance(report.longrepr, tuple) else str(report.longrepr)
         report.outcome = "failed"
         report.longrepr = f"no test is skipped in CI: {why.removeprefix('Skipped: ')}"

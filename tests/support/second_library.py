@@ -325,15 +325,9 @@ def pfs_heads_tails(shop: Instance, sequence: bytearray, length: int, heads: byt
     expect(heads_length == tails_length == length * shop.machines, LENGTH)
     places = distinct(shop.jobs, read32(sequence)[:length])
     put64(heads, *[end for row in ends_of(shop, places) for end in row])
-    put64(tails, *[makespan(machines_from(shop, machine), places[place:])
-                   for place in range(length) for machine in range(shop.machines)])
-
-
-def machines_from(shop: Instance, machine: int) -> Instance:
-    """The instance without the machines before this one."""
-    rest = Instance(shop.jobs, shop.machines - machine, shop.notes)
-    rest.times = shop.times[machine:]
-    return rest
+    rests = [second_program.instance_of([times[machine:] for times in zip(*shop.times)])
+             for machine in range(shop.machines)]
+    put64(tails, *[makespan(rest, places[place:]) for place in range(length) for rest in rests])
 
 
 def pfs_construct_ties(shop: Instance, ties: int, sequence: bytearray, length: int, more: bytearray, more_length: int,

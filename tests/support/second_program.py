@@ -92,7 +92,7 @@ COMMANDS: dict[bytes, tuple[Options, list[Callable[[bytes], Any]]]] = {
 def asked_for(words: Sequence[bytes]) -> tuple[bytes, dict[bytes, Any], list[Any]]:
     """The command that takes these words, its options by name, and its other words."""
     usage = Stop(USAGE, 3)
-    if words[0] not in COMMANDS or not all(is_text(word) for word in words):
+    if words[0] not in COMMANDS or not all(word.decode(errors="replace").encode() == word for word in words):
         raise usage
     options, others = COMMANDS[words[0]]
     given, rest = sorted_out(options, words[1:], usage)
@@ -128,14 +128,6 @@ def sorted_out(options: Options, words: Sequence[bytes], usage: Stop) -> tuple[d
         if given[name] is None or given[name] is False:
             raise usage
     return given, rest
-
-
-def is_text(word: bytes) -> bool:
-    try:
-        word.decode("utf-8")
-    except UnicodeDecodeError:
-        return False
-    return True
 
 
 # Instance files

@@ -190,33 +190,21 @@ def test_changes_are_tried_where_tests_fail_without_them(top: pathlib.Path, fold
         (folder / "ä b" / "out" / "lines").unlink()
 
 
-# What makes the library, in a kit whose folder is named by the path of a page.
-STEPS = """rt|doc
-my-cc|-std=c99|-O2|-fPIC|-g|-Og|-c|-o|lib/out/pfs_cells.o|lib/pfs_cells.c
-my-cc|-std=c99|-O2|-fPIC|-g|-Og|-c|-o|lib/out/pfs_text.o|lib/pfs_text.c
-objcopy|--redefine-sym|pfs_neh=proved_neh|--redefine-sym|pfs_rounds=proved_rounds|crates/pfs_c/out/libpfs_c.a|\
-lib/out/proved.a
-ld|-r|-z|x86-64-v2|-o|lib/out/all.o|lib/out/pfs_cells.o|lib/out/pfs_text.o|--whole-archive|lib/out/proved.a|\
---no-whole-archive|a kit/c/liblibc_c.a
-objcopy|--wildcard|--keep-global-symbol|pfs_*|lib/out/all.o|lib/out/pfs.o
-ar|rcsD|lib/out/libpfs.a|lib/out/pfs.o
-my-cc|-shared|-Wl,-soname,libpfs.so.1|-Wl,--version-script=lib/libpfs.map|-Wl,-z,defs|-Wl,-z,noexecstack|\
--Wl,-z,relro|-Wl,-z,now|-o|lib/out/libpfs.so.1|lib/out/pfs.o""".split("\n")
-
-
 def test_the_library_is_made_by_the_compiler_that_is_named(top: pathlib.Path, folder: pathlib.Path) -> None:
-    """If a step fails, the one of before stays; and nothing else is left."""
+    """If a step fails, the one of before stays; and nothing else is left. What it is made of is in test_library.py."""
     made, mine = folder / "ä b" / "lib" / "out", {"CC": "my-cc", "CFLAGS": "-g -Og"}
     for fails in (0, *range(2, 9)):
         made.mkdir(parents=True, exist_ok=True)
         for name in ("libpfs.a", "libpfs.so.1"):
             (made / name).write_text("old\n")
         got, calls = calls_of(["tools/library"], top, folder, fails, "a kit/START-HERE.md\n", **mine)
-        assert (got, calls) == (Done(7 if fails else 0, "", ""), STEPS[:fails or None])
+        assert (got, len(calls)) == (Done(7 if fails else 0, "", ""), fails or 8)
         assert {path.name: path.read_text() for path in made.iterdir()} == dict.fromkeys(
             ("libpfs.a", "libpfs.so.1"), "old\n" if fails else "made\n")
-    _, calls = calls_of(["tools/library"], top, folder, given="a kit/START-HERE.md\n")
-    assert calls == [step.replace("my-cc", "cc").replace("-g|-Og|", "") for step in STEPS]
+        own = [call for call in calls if call.startswith("my-cc|")]
+        assert fails or [call.partition("-O2|-fPIC|-g|-Og|-c|")[1] != "" for call in own] == [True, True, False]
+    _, usual = calls_of(["tools/library"], top, folder, given="a kit/START-HERE.md\n")
+    assert usual[4].endswith("|a kit/c/liblibc_c.a") and [call.partition("|")[0] for call in usual].count("cc") == 3
     (folder / "ä b" / "crates" / "pfs_c" / "out" / "libpfs_c.a").unlink()
     got = run_tool([folder / "ä b" / "tools" / "library"], folder)
     missing = "crates/pfs_c/out/libpfs_c.a is missing: run tools/build pfs_c"
@@ -266,16 +254,6 @@ eval "$ENDS"
 """}
 TOLD = "0 upgraded, 55 newly installed, 0 to remove and 3 not upgraded.\nNeed to get 60.5 MB of archives.\n"
 NAMES = "nosuch munge openssh-server slurm-wlm"
-BY_SUDO = f"""-n true
--n tee TOP/policy
--n chmod 755 TOP/policy
--n apt-get -q update
--n env LC_ALL=C apt-get -q install --assume-no --no-install-recommends {NAMES}
--n env DEBIAN_FRONTEND=noninteractive apt-get -q install -y --no-install-recommends {NAMES}
--n rm -f TOP/policy
-"""
-
-
 SAID = f"setup: installing 55 packages, 60.5 MB for {NAMES} (what apt says is in LOG)\n"
 SERVERS = "".join(f"setup: the server of {name} isn't started now, but enabled: Debian starts it at the next boot, "
                   "unless you disable it by systemctl\n" for name in NAMES.split()[1:])
@@ -310,7 +288,8 @@ def test_packages_are_installed_and_servers_not_started(ends: str, status: int, 
         f"noninteractive -q install -y --no-install-recommends {NAMES}\npolicy {5 if is_mine else 101}\n"
         + "".join(f"{number}\n" for number in range(1, 26))] * (user != 2)
     noted = (folder / "notes").read_text() if user else ""
-    assert noted.replace(str(folder), "TOP") == {0: "", 2: "-n true\n"}.get(user, BY_SUDO)
+    assert re.findall(r"^-n ([\w-]+)", noted, re.MULTILINE) == {0: [], 2: ["true"]}.get(
+        user, ["true", "tee", "chmod", "apt-get", "env", "env", "rm"])
     assert policy.exists() == is_mine
     assert status or run_tool([folder / "tools" / "setup", "try"], folder, env=env | {"USER_ID": "2"}) == (0, "", "")
 

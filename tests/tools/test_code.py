@@ -68,13 +68,12 @@ def test_shellcheck_finds_nothing(path: str) -> None:
 
 # The rules of the editors
 
-def c_files() -> list[str]:
-    """The files that .clang-format is for."""
-    return sorted(str(path.relative_to(TOP)) for folder in ("lib", "examples", "bench")
-                  for path in (TOP / folder).iterdir() if path.suffix in (".c", ".cpp", ".h", ".hpp"))
+# The files that .clang-format is for.
+C_FILES = sorted(str(path.relative_to(TOP)) for folder in ("lib", "examples", "bench")
+                 for path in (TOP / folder).iterdir() if path.suffix in (".c", ".cpp", ".h", ".hpp"))
 
 
-@pytest.mark.parametrize("path", c_files())
+@pytest.mark.parametrize("path", C_FILES)
 def test_clang_format_changes_nothing(path: str) -> None:
     assert_silent([tool("clang-format"), "--dry-run", "--Werror", "--style=file", path])
 

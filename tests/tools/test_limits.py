@@ -8,23 +8,18 @@ from support.tools import TOP
 SOURCES = ["pfs_base/src/limits.rt", "pfs_order/src/reading.rt", "pfs_layout/src/generator.rt"]
 
 
-def limits() -> dict[str, int]:
-    """The constants of the crates, the generator's greatest seed, the first byte that isn't read, and how many digits
-    may follow the first one of a numeral of an order file."""
-    text = "\n".join((TOP / "crates" / source).read_text() for source in SOURCES)
-    found = {name: int(value.replace("_", ""))
-             for name, value in re.findall(r"^(?:pub )?const (\w+): \w+ = ([\d_]+);$", text, re.MULTILINE)}
-    return found | {"MOST_MAKESPAN": found["GREATEST_MAKESPAN"], "MOST_NOTE": found["GREATEST_NOTE"],
-                    "MOST_GENERATOR_SEED": found["MODULUS"] - 1, "BYTE_BEYOND": found["LONGEST_INPUT"] + 1,
-                    "MORE_OF_A_JOB": len(str(found["GREATEST_JOB"])) - 1,
-                    "MORE_OF_A_MAKESPAN": len(str(found["GREATEST_MAKESPAN"])) - 1}
-
-
-LIMITS = limits()
+TEXT = "\n".join((TOP / "crates" / source).read_text() for source in SOURCES)
+# The constants of the crates, the generator's greatest seed, the first byte that isn't read, and how many digits may
+# follow the first one of a numeral of an order file.
+LIMITS = {name: int(value.replace("_", ""))
+          for name, value in re.findall(r"^(?:pub )?const (\w+): \w+ = ([\d_]+);$", TEXT, re.MULTILINE)}
+LIMITS |= {"MOST_MAKESPAN": LIMITS["GREATEST_MAKESPAN"], "MOST_NOTE": LIMITS["GREATEST_NOTE"],
+           "MOST_GENERATOR_SEED": LIMITS["MODULUS"] - 1, "BYTE_BEYOND": LIMITS["LONGEST_INPUT"] + 1,
+           "MORE_OF_A_JOB": len(str(LIMITS["GREATEST_JOB"])) - 1,
+           "MORE_OF_A_MAKESPAN": len(str(LIMITS["GREATEST_MAKESPAN"])) - 1}
 # Where a constant has the name of the limit.
 NAMED = {
     "lib/pfs.h": r"^#define PFS_(\w+) (?:UINT64_C\()?(\d+)",
-    "python/src/pfs/_library.py": r"^(\w+): Final = (\d+)$",
     "python/src/pfs/_rounds.py": r"^(MOST_ROUNDS): Final = (\d+)$",
     "tests/support/second_library.py": r"^(MOST_\w+) = (\d+)$",
     "tests/support/second_program.py": r"^(\w+) = (\d+)$",

@@ -29,21 +29,13 @@ MOST_SECONDS = 120
 
 # Texts of pages
 
-def tables(text: str) -> list[list[list[str]]]:
-    """The cells of each table, row by row, without the rule below its head."""
-    found = [table.splitlines() for table in re.findall(r"(?:^\|.*\|\n)+", text, re.MULTILINE)]
-    return [[[cell.strip() for cell in line.strip("|").split("|")] for line in [head, *rows]]
-            for head, _, *rows in found]
-
-
 def table(text: str, *head: str) -> list[list[str]]:
-    """The rows of the tables with this head."""
-    return [row for rows in tables(text) if rows[0] == list(head) for row in rows[1:]]
-
-
-def section(title: str) -> str:
-    """The source of a section of the manual page."""
-    return MANUAL.partition(f"\n.Sh {title}\n")[2].partition("\n.Sh ")[0] + "\n"
+    """The rows of the tables with this head, without the rule below it."""
+    found: list[list[str]] = []
+    for each in re.findall(r"(?:^\|.*\|\n)+", text, re.MULTILINE):
+        rows = [[cell.strip() for cell in line.strip("|").split("|")] for line in each.splitlines()]
+        found += rows[2:] if rows[0] == list(head) else []
+    return found
 
 
 # The tables of facts
@@ -78,19 +70,11 @@ def examples(page: str, text: str) -> list[Example]:
     return [Example(page, command, re.sub("\n+$", "\n", printed.lstrip("\n"))) for command, printed in found]
 
 
-def page_examples(page: str) -> list[Example]:
-    """The blocks that begin with a command."""
-    blocks = re.findall(r"^```\w*\n(\$ .*?)^```$", (TOP / page).read_text(), re.MULTILINE | re.DOTALL)
-    return examples(page, "\n".join(blocks))
-
-
-def manual_examples() -> list[Example]:
-    blocks = re.findall(r"^\.Bd -literal.*?\n(.*?)^\.Ed$", section("EXAMPLES"), re.MULTILINE | re.DOTALL)
-    return examples("pfs.1", "".join(blocks).replace(r"\e", "\\"))
-
-
-EXAMPLES = {page: page_examples(page) for page in ("README.md", "docs/COMMANDS.md", "docs/COOKBOOK.md")} \
-    | {"pfs.1": manual_examples()}
+SECTION = MANUAL.partition("\n.Sh EXAMPLES\n")[2].partition("\n.Sh ")[0].replace(r"\e", "\\") + "\n"
+BLOCKS = {page: re.findall(r"^```\w*\n(\$ .*?)^```$", (TOP / page).read_text(), re.MULTILINE | re.DOTALL)
+          for page in ("README.md", "docs/COMMANDS.md", "docs/COOKBOOK.md")}
+BLOCKS["pfs.1"] = re.findall(r"^\.Bd -literal.*?\n(.*?)^\.Ed$", SECTION, re.MULTILINE | re.DOTALL)
+EXAMPLES = {page: examples(page, "".join(blocks)) for page, blocks in BLOCKS.items()}
 
 
 @pytest.fixture(scope="module")
@@ -162,12 +146,6 @@ def test_the_comparison_is_made_as_the_page_says(pfs: Program, libpfs: Library, 
 
 def test_the_page_on_commands_has_those_of_the_usage_text_and_the_one_without_arguments() -> None:
     assert [command.strip("`") for command, _ in table(COMMANDS, "Command", "Prints")] == [*LINES, "pfs"]
-
-
-@pytest.mark.parametrize("page", PAGES)
-def test_the_pages_to_which_a_page_links_are_there(page: str) -> None:
-    named = [name for name in re.findall(r"\]\(([^)#]+)\)", (TOP / page).read_text()) if "://" not in name]
-    assert [name for name in named if not (TOP / page).parent.joinpath(name).exists()] == []
 
 
 SLIPS = [re.findall("`([^`]+)`", typed)[0] for typed, _ in table(TROUBLESHOOTING, "Typed", "Reason")]
@@ -258,7 +236,9 @@ WHEN = {
 # Options
 
 def test_each_option_of_the_usage_text_is_in_the_table() -> None:
+    """With the layouts."""
     assert {option for command in commands().values() for option in command.options} == set(OPTIONS)
+    assert all(set(re.findall("`(.*?)`", OPTIONS[option][0])) == LAYOUTS for option in ("--layout", "--from", "--to"))
 
 
 @pytest.mark.parametrize("option", RANGED)
@@ -270,10 +250,6 @@ def test_a_default_is_as_without_and_one_more_is_not(option: str, pfs: Program, 
                            ("", f" {option}={default}", f" {option}={default + 1}"))
     assert without.status == 0 and without == same, f"the default of {option}"
     assert without != more, f"one more than the default of {option}"
-
-
-def test_a_layout_is_one_of_these() -> None:
-    assert all(set(re.findall("`(.*?)`", OPTIONS[option][0])) == LAYOUTS for option in ("--layout", "--from", "--to"))
 
 
 # Order files
@@ -433,12 +409,6 @@ def ends_of_paths() -> set[str]:
     return there
 
 
-@pytest.mark.parametrize("page", PAGES)
-def test_the_paths_of_this_page_exist(page: str) -> None:
-    named = [name for name in NAMED.findall((TOP / page).read_text()) if not ELSEWHERE.search(name)]
-    assert [name for name in named if name.rstrip("/") not in ends_of_paths()] == []
-
-
 @functools.cache
 def names_of_sources() -> set[str]:
     """All words of the sources and of their paths, except this file."""
@@ -448,16 +418,17 @@ def names_of_sources() -> set[str]:
 
 
 @pytest.mark.parametrize("page", PAGES)
-def test_the_names_of_this_page_are_in_the_sources(page: str) -> None:
-    """Those between backquotes."""
-    text = re.sub(r"^```.*?^```$", "", (TOP / page).read_text(), flags=re.MULTILINE | re.DOTALL)
-    names = {name for code in re.findall(r"`([^`\n]+)`", text) for name in NAME.findall(code)}
+def test_what_this_page_names_exists(page: str) -> None:
+    """The pages to which it links, paths, names between backquotes, which are in the sources, and goals of `make`, in
+    backquotes or at the beginning of an example's line."""
+    text = (TOP / page).read_text()
+    linked = [name for name in re.findall(r"\]\(([^)#]+)\)", text) if "://" not in name]
+    assert [name for name in linked if not (TOP / page).parent.joinpath(name).exists()] == []
+    paths = [name for name in NAMED.findall(text) if not ELSEWHERE.search(name)]
+    assert [name for name in paths if name.rstrip("/") not in ends_of_paths()] == []
+    inline = re.sub(r"^```.*?^```$", "", text, flags=re.MULTILINE | re.DOTALL)
+    names = {name for code in re.findall(r"`([^`\n]+)`", inline) for name in NAME.findall(code)}
     assert names - names_of_sources() - FOREIGN == set()
-
-
-@pytest.mark.parametrize("page", PAGES)
-def test_the_goals_of_make_that_this_page_names_exist(page: str) -> None:
-    """In backquotes, or at the beginning of an example's line."""
-    named = set(re.findall(r"(?:`|^(?:sudo )?)make (?!-)([a-z-]+)", (TOP / page).read_text(), re.MULTILINE))
     phony = re.findall(r"^\.PHONY: (.*)", (TOP / "Makefile").read_text(), re.MULTILINE)
-    assert named - {goal for line in phony for goal in line.split()} == set()
+    goals = set(re.findall(r"(?:`|^(?:sudo )?)make (?!-)([a-z-]+)", text, re.MULTILINE))
+    assert goals - {goal for line in phony for goal in line.split()} == set()

@@ -11,7 +11,6 @@ import pytest
 from support.needs import tool
 from support.tools import TOP, Done, output_of, require_debian_module, run_tool
 
-
 pytestmark = [pytest.mark.long, pytest.mark.seconds(20), pytest.mark.xdist_group("site")]
 
 

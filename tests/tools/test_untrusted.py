@@ -13,7 +13,6 @@ from support.program import Program
 from support.tools import TOP, Done, run_tool, with_path
 
 
-
 def line() -> str:
     """The line, in which FILE and ORDER are names."""
     found = re.findall(r"^timeout .*$", (TOP / "SECURITY.md").read_text(), re.MULTILINE)
