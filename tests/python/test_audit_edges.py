@@ -311,10 +311,10 @@ def wrong_makespan(kind: str, rows: Rows, at: tuple[int, str], other: int, chanc
     return stated[kind]()
 
 
-@pytest.mark.parametrize("seed", range(3))
+@pytest.mark.parametrize("seed", range(1, 4))
 def test_of_17_wrong_makespans_in_300_rows_16_have_their_cause(seed: int) -> None:
-    """Each second method and the last ten instances of each size have no error. Of each row whose makespan is wrong we
-    know the kind of the error, and what is told of it."""
+    """Each second method and each second instance have no error. Of each row whose makespan is wrong we know the kind
+    of the error, and what is told of it."""
     chance, rows, wrong = random.Random(seed), Rows(), dict[tuple[int, str], tuple[str, str]]()
     for number, method in itertools.product(NUMBERS, METHODS):
         shop = pfs.taillard(number)
@@ -322,13 +322,13 @@ def test_of_17_wrong_makespans_in_300_rows_16_have_their_cause(seed: int) -> Non
         for _ in range(METHODS.index(method) * 2):
             order.insert(chance.randrange(len(order)), order.pop(chance.randrange(len(order))))
         rows[number, method] = row(f"ta{number:03}", order, makespan(shop, order), method)
-    free = [at for at in rows if at[0] % 30 < 16 and at[1] in METHODS[1::2]]
+    free = [at for at in rows if at[0] in NUMBERS[::2] and at[1] in METHODS[1::2]]
     chance.shuffle(free)
     for kind in [kind for kind, (count, _) in KINDS.items() for _ in range(count)]:
         stated = right = 0
         while abs(stated - right) < 2:
-            at, other = free.pop(), chance.randrange(16, 26)
-            other += at[0] // 30 * 30
+            at = free.pop()
+            other = chance.choice([each for each in NUMBERS[1::2] if (each - 1) // 10 == (at[0] - 1) // 10])
             stated, right = wrong_makespan(kind, rows, at, other, chance), rows[at]["makespan"]
         rows[at]["makespan"] = stated
         wrong[at] = kind, KINDS[kind][1].format(stated, f"ta{other:03}")

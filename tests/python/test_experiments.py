@@ -770,6 +770,7 @@ FAILING = [("$pfs \"$@\" | sed 's/^makespan .*/makespan 1/'; exit",
             "check: exit 1, wrong makespan, stated 1, computed"),
            ("kill -9 $$", "solve: signal 9"),
            ('echo "no memory, perhaps" >&2; exit 4', "solve: exit 4, no memory, perhaps"),
+           ('echo "nothing that could be read"; exit', "solve: no cells printed"),
            ("kill -9 $PPID", "lost: exit 137, signal 0")]
 
 
@@ -777,19 +778,19 @@ def test_the_csv_has_a_failed_run_with_its_status(experiment: Experiment) -> Non
     """A run that was killed is made by the next start, and the others are with --retry."""
     program = experiment.replacement("\n".join(f'"solve "*"--seed {seed} "*) {line};;'
                                                for seed, (line, _) in enumerate(FAILING, 1)))
-    got = experiment.plan(HALF.replace("[1, 2, 3]", "[0, 1, 2, 3, 4]")).run(program=program)
+    got = experiment.plan(HALF.replace("[1, 2, 3]", "[0, 1, 2, 3, 4, 5]")).run(program=program)
     statuses = ["ok", *(status for _, status in FAILING)]
-    assert got._replace(stderr=re.sub(r"(?<=computed) \d+", "", got.stderr)) == ended(10, 8, 0, "".join(
+    assert got._replace(stderr=re.sub(r"(?<=computed) \d+", "", got.stderr)) == ended(12, 10, 0, "".join(
         f"shops/a (rounds 10, take 4, passes 0, seed {seed}) and 1 more failed: {statuses[seed]}\n"
-        for seed in (1, 2, 3, 4)))
+        for seed in (1, 2, 3, 4, 5)))
     assert [re.sub(r"(?<=computed) \d+", "", row[-1]) for row in experiment.rows()] == statuses * 2
     assert {row[8:-1] for row in experiment.rows() if row[-1] != "ok"} == {("",) * 4}, "results of runs that failed"
     (experiment.folder / "notes").unlink()
     (experiment.folder / "fixed").touch()
     assert experiment.run(program=program).status == 1
-    assert sorted(line.partition("--seed ")[2][0] for line in experiment.started()) == ["2", "2", "4", "4"]
-    assert experiment.run("out.csv", "--retry", program=program) == ended(10)
-    assert experiment.rows() == experiment.wanted(rounds=[10], seeds=range(5))
+    assert sorted(line.partition("--seed ")[2][0] for line in experiment.started()) == ["2", "2", "5", "5"]
+    assert experiment.run("out.csv", "--retry", program=program) == ended(12)
+    assert experiment.rows() == experiment.wanted(rounds=[10], seeds=range(6))
 
 
 # Interruptions

@@ -488,7 +488,7 @@ def test_rounds_that_accept_longer_orders_or_hold_jobs(
     more: dict[str, Any] = {"partial": 0, "ties": "first", "temperature": 0}
     words: dict[str, Any] = {"passes": passes, "take": chance.randint(1, jobs), "seed": seed}
     options: dict[str, Any] = words | {"hold": hold, "move": move}
-    if is_longer or not hold and move is None:
+    if is_longer or jobs == 1 or not hold and move is None:
         more = {"partial": partial, "ties": ties, "temperature": temperature}
         options |= LONGER | more
     due = (begun, begun) if not free else plainly.iterated(
