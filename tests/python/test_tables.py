@@ -158,7 +158,7 @@ RIGHT_TABLES = {
     "an empty second column": ("job;;saw\na;;3\n", [[3]]),
     "empty columns": ("job;saw;;drill;\na;3;;2;\n", [[3, 2]]),
     "hours and minutes without work": ("job;saw;drill\na;1:30;0\nb;0:05:00;0,0\nc;0;0\n", [[90, 0], [5, 0], [0, 0]]),
-    "counted jobs and machines below a unit": ("Auftrag [Min];1;2\n1;3;12\n2;20;5\n", [[3, 12], [20, 5]]),
+    "counted jobs and machines below a unit": ("times [Min];1;2\n1;3;12\n2;20;5\n", [[3, 12], [20, 5]]),
     "a unit in two languages": ("job [min];saw [Minuten];drill [MIN]\na;3;12\n", [[3, 12]]),
     "an empty first cell": (";101;102\na;3;12\n", [[3, 12]]),
     "brackets that are no unit": ("job;drill (left);drill (right)\na;3;12\n", [[3, 12]]),
