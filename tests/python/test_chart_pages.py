@@ -560,7 +560,7 @@ function type(text) {
   field.value = text;
   calls = [];
   field.dispatchEvent(new Event("input"));
-  return [byId("found").textContent, rows(), [...sought ?? []], calls.length > 0];
+  return [byId("found").textContent, rows(), sought && [...sought], calls.length > 0];
 }
 const seen = {choices: [...choice.options].map(option => option.textContent)};
 for (const text of TEXTS) seen[text] = type(text);
@@ -596,7 +596,7 @@ def test_jobs_that_are_sought_and_machines_are_listed(pages: dict[str, Any]) -> 
         places = sorted(ORDER.index(job) for job in jobs)
         lists = [[f"Job {SHORT_NAMES[ORDER[place]]}, place {place + 1}", heads[0], *times[place]] for place in places]
         said = f"{len(jobs)} job{'' if len(jobs) == 1 else 's'} found" if text else ""
-        assert seen[text] == [said, lists, places, True], text
+        assert seen[text] == [said, lists, places or None, True], text
     assert seen["choice all"] == [[f"Machine {machine}", heads[1], *(
         [str(place), SHORT_NAMES[ORDER[place - 1]], *row[1:]] for place, rows in enumerate(times, 1) for row in rows
         if row[0] == machine)] for machine in MACHINES]

@@ -70,7 +70,8 @@ def test_without_the_library_the_program_is_installed_alone(copy: Copy, folder: 
 
 @pytest.mark.parametrize(("prefix", "lib"), [
     ("opt", "lib"), ("/opt/a b", "lib"), ("/opt/a\\1b", "lib"), ("/opt/a$b", "lib"), ("/opt/a\nb", "lib"),
-    ("/opt/a#b", "lib"), ("/opt/a'b", "lib"), ("/opt/a&b", "lib"), ("/opt/a|b", "lib"), ("/opt/R", "lib x")])
+    ("/opt/a#b", "lib"), ("/opt/a'b", "lib"), ("/opt/a\"b", "lib"), ("/opt/a\ab", "lib"), ("/opt/a&b", "lib"),
+    ("/opt/a|b", "lib"), ("/opt/R", "lib x")])
 def test_a_prefix_that_pkg_config_cannot_read_is_rejected(prefix: str, lib: str, top: pathlib.Path,
                                                           folder: pathlib.Path) -> None:
     """Before anything is written."""
