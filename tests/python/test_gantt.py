@@ -115,15 +115,9 @@ class Picture:
 
 def drawn(folder: pathlib.Path, *words: str, text: str = THREE, said: str = "") -> Picture:
     """What is drawn with these words, and a message."""
-    kept: list[Any] = []
-
-    def keep(figure: Any, *_: object) -> bytes:
-        kept.append(figure)
-        return b""
-
-    with mock.patch.object(_gantt, "picture_of", keep):
+    with mock.patch.object(_gantt, "picture_of", return_value=b"") as saved:
         assert gantt(folder, *words, "table", "picture.svg", text=text) == Done(0, "", said)
-    return Picture(kept[0])
+    return Picture(saved.call_args.args[0])
 
 
 # Schedules

@@ -188,7 +188,6 @@ TELLS: list[tuple[str, Any, str]] = [
     ("plan", {"shop": {**SHOP, "jobs": ["a", "a", "b", "c"]}}, "'a' occurs twice"),
     ("plan", {"calendar": {**DATES, "shifts": "6 to 14"}}, "is not a shift"),
     ("plan", {"calendar": {**DATES, "begin": ""}}, '"Shifts" needs "Work begins"'),
-    ("plan", {"shop": {**SHOP, "unit": ""}}, "the times have no unit"),
     ("plan", {"calendar": {**DATES, "closed": "2026-12-24," * 2_000}}, "too long"),
     ("file", {"calendar": {}, "kind": "zip"}, 'a calendar needs "Work begins"'),
     ("rest", {**AT, "calendar": {}}, '"Now" needs "Work'),

@@ -4,7 +4,6 @@ import http.client
 import json
 import pathlib
 import re
-import shutil
 import signal
 import socket
 import subprocess
@@ -219,9 +218,7 @@ RIGHTS = {"SystemCallFilter_resources", "SystemCallFilter_privileged", "RootDire
 
 def test_the_unit_is_one_that_systemd_reads_and_has_few_rights(tmp_path: pathlib.Path) -> None:
     """The page on installing writes the files that it reads, and says how much memory it may use."""
-    analyze = shutil.which("systemd-analyze")
-    if analyze is None:
-        pytest.skip("systemd isn't installed")
+    analyze = tool("systemd-analyze")
     unit = tmp_path / "pfs-web.service"
     whole = (TOP / "debian" / "pfs-web.service").read_text()
     text = re.sub("^#.*", "", whole, flags=re.MULTILINE)

@@ -3,7 +3,6 @@ import datetime
 import pathlib
 import re
 import resource
-import subprocess
 import warnings
 import zipfile
 from collections.abc import Sequence
@@ -17,6 +16,7 @@ from pfs._orders import order_in
 from support.commands import ended
 from support.needs import tool
 from support.office import Office
+from support.tools import output_of
 
 openpyxl = pytest.importorskip("openpyxl")
 pytestmark = pytest.mark.xdist_group("office")
@@ -234,8 +234,7 @@ def test_a_schedule_is_shown_whole(tmp_path: pathlib.Path, office: Office) -> No
                     "A2", sheet.dimensions, "1:1", 0, True, "&A") for sheet in book)
     fonts = [[(cell.font.name, cell.font.sz, cell.font.b) for cell in row] for row in book["jobs"]["A1:C2"]]
     assert fonts == [[("Calibri", 11, is_bold)] * 3 for is_bold in (True, False)]
-    pdf = office(path, "pdf")
-    text = subprocess.run([tool("pdftotext"), "-layout", pdf, "-"], capture_output=True, text=True, check=True).stdout
+    text = output_of([tool("pdftotext"), "-layout", office(path, "pdf"), "-"], tmp_path)
     assert "###" not in text and text.count("\f") == 8
     assert re.findall(r"^ *1 +A-1001 Welle +(2026-11-30 06:00) +(2026-11-30 07:30)$", text, re.MULTILINE)
 
