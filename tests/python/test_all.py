@@ -53,9 +53,9 @@ def test_what_was_found_is_not_searched_again() -> None:
                           progress=lambda *line: got.append(line))
     assert found == {(0, 1): SHOPS[0].solve(40, seed=1), (1, 1): whole}
     assert got == [(2, 2)], "a finished search is made again"
-    large = pfs.generate(30, 8, 9)
-    assert pfs.solve_all([large], [0], 60, **LONGER, found={(0, 0): large.solve(20, **LONGER)}) == {
-        (0, 0): large.solve(60, **LONGER)}
+    large, longer = pfs.generate(30, 8, 9), "iterated-greedy"
+    assert pfs.solve_all([large], [0], 60, method=longer, found={(0, 0): large.solve(20, method=longer)}) == {
+        (0, 0): large.solve(60, method=longer)}
     shop = pfs.taillard(1)
     near = shop.solve(124)
     assert pfs.solve_all([shop], [0], 1000, target=1278, found={(0, 0): near}) == {(0, 0): near}

@@ -114,7 +114,7 @@ def test_tables_that_are_unclear(change: dict[str, Any], said: str) -> None:
 
 
 @pytest.mark.parametrize(("text", "line", "said"), [
-    ("instance,makespan,order\nsmall,10,2,1,3\n", 2, "5 cells for 3 columns: quote an order"),
+    ("instance,makespan,order\nsmall,10,2,1\n", 2, "4 cells for 3 columns: quote an order"),
     ("instance makespan order\n", 1, "no column instance (or problem), makespan (or Cmax), order (or sequence, "),
     ("", 1, "the table is empty"), ("instance;makespan;order\n", 1, "the table has only its first line, and no orders"),
     ("instance;makespan\nsmall;10\n", 1, "no column order (or sequence, permutation, Reihenfolge), but 'instance', 'm"),

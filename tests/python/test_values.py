@@ -283,36 +283,37 @@ def test_jobs_by_their_names() -> None:
 
 # Building blocks of search methods: heads and tails, construction and local search
 
-@given(st.data(), plainly.shops_and_sequences(), st.integers(0, 3), st.sampled_from([None, "first", "idle"]))
-def test_building_blocks(data: st.DataObject, case: tuple[plainly.Table, list[int]], passes: int,
-                         ties: str | None) -> None:
+@given(st.data(), plainly.shops_and_sequences(), st.integers(0, 3))
+def test_building_blocks(data: st.DataObject, case: tuple[plainly.Table, list[int]], passes: int) -> None:
     """Heads are the ends of the schedule, and tails those of the reversed one. A pass is an improvement of at most one
     pass; without a number of passes there are up to 100. Without a rule for ties the first place is the best."""
     times, sequence = case
-    shop, plain, rule = pfs.Instance(times), second_program.instance_of(times), int(ties == "idle")
-    words: dict[str, Any] = {"ties": ties} if ties else {}
+    shop, plain = pfs.Instance(times), second_program.instance_of(times)
     ends = [[end for _, end in row] for row in plainly.schedule(times, sequence)]
     heads = shop.heads(sequence)
     assert heads.tolist() == ends and heads.shape == (len(sequence), len(times[0])) and heads.dtype == np.int64
     backwards = plainly.schedule([row[::-1] for row in times], sequence[::-1])
     assert shop.tails(sequence).tolist() == [[end for _, end in row][::-1] for row in backwards][::-1]
-    more = data.draw(st.permutations(sorted({*range(shop.jobs)} - {*sequence})))[:data.draw(st.integers(0, 6))]
-    due = sequence
-    for job in more:
-        best = shop.best_place(due, job, **words)
-        due = second_library.placed(plain, due, 0, job, rule)
-        assert best == (due.index(job), plainly.makespan(times, due))
-    order, makespan = shop.insert_all(sequence, more, **words)
-    assert (order.tolist(), makespan) == (due, plainly.makespan(times, due))
-    some = data.draw(st.permutations(due))[:data.draw(st.integers(0, len(due)))]
-    calls: list[tuple[list[int], dict[str, Any]]] = [(some, {"jobs": some}), (sorted(due), {})]
-    for jobs, more_words in calls:
-        once = due
-        for _ in range(passes):
-            once = second_library.improved(plain, once, 0, jobs, 1, rule)
-        for count, found in ((passes, once), (None, second_library.improved(plain, due, 0, jobs, 100, rule))):
-            got = shop.local_search(due, passes=count, **more_words, **words)
-            assert (got.jobs.tolist(), got.makespan) == (found, plainly.makespan(times, found))
+    more = data.draw(st.permutations(sorted({*range(shop.jobs)} - {*sequence})))
+    rules: list[tuple[int, dict[str, Any]]] = [(0, {}), (1, {"ties": "idle"})]
+    for rule, words in rules:
+        due = sequence
+        for job in more:
+            best = shop.best_place(due, job, **words)
+            due = second_library.placed(plain, due, 0, job, rule)
+            assert best == (due.index(job), plainly.makespan(times, due))
+        order, makespan = shop.insert_all(sequence, more, **words)
+        assert (order.tolist(), makespan) == (due, plainly.makespan(times, due))
+        due = due if rule else sequence
+        some = data.draw(st.permutations(due))[:data.draw(st.integers(0, len(due)))]
+        calls: list[tuple[list[int], dict[str, Any]]] = [(some, {"jobs": some}), (sorted(due), {})]
+        for jobs, more_words in calls:
+            once = due
+            for _ in range(passes):
+                once = second_library.improved(plain, once, 0, jobs, 1, rule)
+            for count, found in ((passes, once), (None, second_library.improved(plain, due, 0, jobs, 100, rule))):
+                got = shop.local_search(due, passes=count, **more_words, **words)
+                assert (got.jobs.tolist(), got.makespan) == (found, plainly.makespan(times, found))
 
 
 def test_a_number_of_passes_is_made_in_full() -> None:
