@@ -150,8 +150,7 @@ def test_a_search_with_temperature(built: pathlib.Path, pfs: Program, shop: path
 
 def test_a_plan_runs_and_audits_the_search_with_temperature(built: pathlib.Path, pfs: Program, libpfs: Library,
                                                            shop: pathlib.Path, scripts: pathlib.Path) -> None:
-    """The program in C, and the one in Python, each in one plan with pfs. They find the best known makespan of this
-    instance, of which a search without temperature stays above."""
+    """The program in C, and the one in Python, each in one plan with pfs. All find the best known makespan."""
     tool("parallel")
     plan = (EXAMPLES.parent / "experiments" / "ig_temperature.toml").read_text().replace("ta*", "ta001")
     (shop / "out" / "taillard").mkdir(parents=True)

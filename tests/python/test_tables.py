@@ -151,7 +151,7 @@ RIGHT_TABLES = {
     "one machine": ("job;saw\na;1\nb;2\nc;3\n", [[1], [2], [3]]),
     "one job": ("job;saw;drill;paint\na;1;2;3\n", [[1, 2, 3]]),
     "no work": ("job;saw;drill;paint\na;0;0;0\nb;0;0;0\nc;0;0;0\n", [[0, 0, 0]] * 3),
-    "names that begin like a total": ("job;saw;Summer\na;1;2\nMeansteel;3;4\nTotally;4;7\n", [[1, 2], [3, 4], [4, 7]]),
+    "names that begin like a total": ("job;saw;Summer\nQty;1;2\nMeanest;3;4\nTotally;4;7\n", [[1, 2], [3, 4], [4, 7]]),
     "numbers of orders in the US": ("Work order #,saw,drill\n4711,3,12\n4713,20,5\n", [[3, 12], [20, 5]]),
     "a date beside the title": ("Plan;;30.11.2026\nAuftrag;saw;drill\na;3;2\n", [[3, 2]]),
     "a title above some machines": ("Week;;minutes;;\nOF;saw;drill;paint\na;3;2;1\n", [[3, 2, 1]]),
