@@ -462,6 +462,8 @@ def test_a_search_by_time_continues_with_another_seed(monkeypatch: pytest.Monkey
 # Searches that accept longer orders, and those that hold jobs
 
 LONGER: dict[str, Any] = {"method": "iterated-greedy"}
+# Its rounds lead to other orders by each rule for ties.
+TIED = ([[3, 3, 0], [2, 4, 3], [3, 2, 3], [2, 4, 1], [4, 1, 2]], [0, 1, 2, 3, 4])
 
 
 @given(case=plainly.shops_and_orders(5), counts=st.lists(st.integers(1, 5), min_size=1, max_size=3),
@@ -469,9 +471,10 @@ LONGER: dict[str, Any] = {"method": "iterated-greedy"}
        passes=st.integers(0, 2), ties=st.sampled_from(["first", "idle"]), temperature=st.sampled_from([0, 0.5, 3, 40]),
        moves=st.one_of(st.none(), st.sets(st.integers(0, 4))), is_longer=st.booleans(),
        chance=st.randoms(use_true_random=False))
-@example(case=([[3, 3, 0], [2, 4, 3], [3, 2, 3], [2, 4, 1], [4, 1, 2]], [0, 1, 2, 3, 4]), counts=[7], rounds=8, seed=1,
-         held=0, partial=0, passes=1, ties="idle", temperature=0, moves=None, is_longer=True,
-         chance=random.Random(1))  # not as "first"
+@example(case=TIED, counts=[7], rounds=8, seed=1, held=0, partial=0, passes=1, ties="idle", temperature=0, moves=None,
+         is_longer=True, chance=random.Random(1))
+@example(case=TIED, counts=[7], rounds=8, seed=1, held=1, partial=0, passes=0, ties="first", temperature=0, moves=None,
+         is_longer=False, chance=random.Random(4))
 def test_rounds_that_accept_longer_orders_or_hold_jobs(
         cut: Callable[[list[int]], None], case: tuple[plainly.Table, list[int]], counts: list[int], rounds: int,
         seed: int, held: int, partial: int, passes: int, ties: str, temperature: float, moves: set[int] | None,

@@ -176,7 +176,7 @@ def by_library(run: Run, options: dict[str, Any] | None) -> Found:
     best = running.finished()
     order = order_file(f"order2 {jobs} {machines}", [job + 1 for job in best.order], best.makespan.value)
     return Found(order, str(best.all_cells()) if more is None else "", spent, str(best.total) if is_by_time else "",
-                 points=better(points) if is_by_time else [])
+                 points=points if is_by_time else [])
 
 
 # Other programs
