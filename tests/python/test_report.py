@@ -108,6 +108,7 @@ GAP, SECONDS = "the column gap_percent, from -100 to 1e+20", "the column seconds
 BAD = [("20,5,0", "20,5,0.5", "'0.5' is not a number of the column rounds, from 0 to 1e+09"),
        *(("10.0000", each, f"{each!r} is not a number of {GAP}") for each in ("-101", "nan", "x", "1.1e20")),
        (",110,", f",{'1' * 320},", f"'{'1' * 40}' is not a number of the column makespan, from 0 to 1e+18"),
+       (",110,", f",{'1' * 131_073},", "field larger than field limit (131072)"),
        *(("0.001000", each, f"{each!r} is not a number of {SECONDS}")
          for each in ("inf", "1_0", "-1", "\N{ARABIC-INDIC DIGIT ONE}"))]
 # The status, the arguments, and what is said.

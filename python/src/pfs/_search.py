@@ -316,16 +316,10 @@ def numbers_of(given: Jobs, shop: Instance, what: str) -> list[int]:
     return jobs
 
 
-def insert_after(shop: Instance, order: list[int], held: int, jobs: Sequence[int]) -> int:
-    """Insert jobs into an order one after the other, each at its best place after the held ones. Return the makespan
-    after the last one."""
-    makespan = 0
+def insert_after(shop: Instance, order: list[int], held: int, jobs: Sequence[int]) -> None:
+    """Insert jobs into an order one after the other, each at its best place after the held ones."""
     for job in jobs:
-        makespans = shop.places(order, job)[held:]
-        place = int(makespans.argmin())
-        makespan = int(makespans[place])
-        order.insert(held + place, job)
-    return makespan
+        order.insert(held + int(shop.places(order, job)[held:].argmin()), job)
 
 
 def by_total(shop: Instance, jobs: Sequence[int]) -> list[int]:
