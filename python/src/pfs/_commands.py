@@ -128,8 +128,6 @@ def searched(search: Search, rounds: int | None, seconds: float | None, caught: 
         left = None if rounds is None else rounds - search.first
         return solve(search, left, None, seconds, stop=SimpleNamespace(is_set=is_set)), None
     except (OSError, MemoryError) as fault:
-        if search.last is None:
-            raise
         return search.solution(), fault
     finally:
         progress.show("")
