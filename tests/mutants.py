@@ -27,11 +27,11 @@ TOP = pathlib.Path(__file__).resolve().parents[1]
 PACKAGE = TOP / "python" / "src" / "pfs"
 REST = re.compile(r"(@[^]|]*)?(\|\w+)?$")  # what follows the name of a test: its group, and what is run of it
 SHARE = 0.05  # of the time of all tests, which those of a change take at most
-# All processes end with the first one, where the system permits that.
+# All processes end with the first one, where the system permits that, and that one after five minutes.
 APART = ["unshare", "--pid", "--fork", "--kill-child", "--mount-proc", "sh", "-c", '"$@"; exit $?', "sh"]
-PYTEST = [*(APART if subprocess.run([*APART, "true"], capture_output=True).returncode == 0 else []), "prlimit",
-          "--cpu=120", f"--as={12 << 30}", "/usr/bin/python3", "-m", "pytest", "-q", "-x", "-n0", "--timeout=60",
-          f"--pfs={TOP}/crates/pfs/out/pfs", f"--libpfs={TOP}/lib/out/libpfs.so.1"]
+PYTEST = [*(APART if subprocess.run([*APART, "true"], capture_output=True).returncode == 0 else []),
+          "timeout", "-sKILL", "300", "prlimit", "--cpu=120", f"--as={12 << 30}", "/usr/bin/python3", "-m", "pytest",
+          "-q", "-x", "-n0", "--timeout=60", f"--pfs={TOP}/crates/pfs/out/pfs", f"--libpfs={TOP}/lib/out/libpfs.so.1"]
 SIGNS = [getattr(ast, name) for name in ("Lt LtE Gt GtE Eq NotEq In NotIn Is IsNot And Or Add Sub Mult FloorDiv Div "
                                          "Mod BitOr BitAnd").split()]  # each two may be confused
 
