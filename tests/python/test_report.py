@@ -275,6 +275,7 @@ def test_orders_are_audited_where_the_instance_is_at_hand(experiment: Experiment
     assert report_of(text).status == 0
     assert columns(folder, "table", "audited", "runs") == [("0", "1"), ("1", "3")]
     assert "Not audited, only stated: out." in (folder / "report" / "sizes.md").read_text()
+    assert [row["instance"] for row in csv_rows(folder / "report" / "best.csv")] == ["ta001"], "an unknown instance"
     assert report_of(f"ta001,1,1448,{order}\nta001,2,1448,{order}\n").status == 0
     assert "audited" not in (folder / "report" / "sizes.md").read_text()
     assert csv_rows(folder / "report" / "best.csv") == [dict(instance="ta001", method="out", makespan="1448",
@@ -358,7 +359,7 @@ def all_signs(differences: list[float]) -> float:
 # The makespans of two methods on instances with these references, and the differences in RPD. In the second case the
 # ranks of the differences in makespan are others. In the first four pairs are tied, and some differences are equal.
 PAIRS: dict[str, tuple[list[int], list[int]]] = {
-    "ties": ([1000] * 11, [0, 0, 0, 0, 10, 10, 20, 20, 20, 30, 40]),
+    "ties": ([1000] * 11, [0, 0, 0, 0, 10, 10, 20, 20, -20, -30, -40]),
     "scales": ([100, 100, 1000, 1000, 10000, 10000, 500], [9, 7, 50, 30, -100, -120, 15]),
     "all tied": ([100], [0])}
 
