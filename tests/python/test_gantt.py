@@ -436,6 +436,7 @@ def test_a_missing_module_is_named_with_its_package(main: Callable[[], int], lin
     """Before anything is read or written, here or by the report of an experiment."""
     modules: dict[str, Any] = sys.modules
     monkeypatch.setitem(modules, module, None)
+    monkeypatch.setattr("signal.signal", mock.Mock())
     got = run_main(main, [*line.split(), "made.svg"], folder)
     assert got == Done(4, "", f"{what} needs {module} (Debian: python3-{module}; pip install 'pfs[charts]')\n")
     assert os.listdir(folder) == []
