@@ -26,7 +26,7 @@ import coverage
 TOP = pathlib.Path(__file__).resolve().parents[1]
 PACKAGE = TOP / "python" / "src" / "pfs"
 REST = re.compile(r"(@[^]|]*)?(\|\w+)?$")  # what follows the name of a test: its group, and what is run of it
-SHARE = 0.05  # of the time of all tests, which those of a change take at most
+SHARE = 0.1  # of the time of all tests, which those of a change take at most
 # All processes end with the first one, where the system permits that, and that one after five minutes.
 APART = ["unshare", "--pid", "--fork", "--kill-child", "--mount-proc", "sh", "-c", '"$@"; exit $?', "sh"]
 PYTEST = [*(APART if subprocess.run([*APART, "true"], capture_output=True).returncode == 0 else []),
