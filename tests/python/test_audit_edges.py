@@ -314,7 +314,7 @@ def wrong_makespan(kind: str, rows: Rows, at: tuple[int, str], other: int, chanc
 @pytest.mark.parametrize("seed", range(1, 4))
 def test_of_17_wrong_makespans_in_300_rows_16_have_their_cause(seed: int) -> None:
     """Each second method and each second instance have no error. Of each row whose makespan is wrong we know the kind
-    of the error, and what is told of it."""
+    of the error, and what is reported of it."""
     chance, rows, wrong = random.Random(seed), Rows(), dict[tuple[int, str], tuple[str, str]]()
     for number, method in itertools.product(NUMBERS, METHODS):
         shop = pfs.taillard(number)

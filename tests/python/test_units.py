@@ -447,7 +447,7 @@ def events(path: pathlib.Path) -> list[tuple[str, str, datetime.datetime, dateti
 
 
 def test_each_machine_has_a_calendar(tmp_path: pathlib.Path) -> None:
-    """Work goes on in the next shift, and what takes no time is no event."""
+    """Work goes on in the next shift, and what takes no time isn't an event."""
     names = ["chair, red; \u00e4" + "\u00e4" * 60, "table\\2"]
     shop = pfs.Instance([[300, 0], [250, 400]], job_names=names, machine_names=["saw/1", "drill"], unit="min")
     calendar = pfs.Calendar("2026-11-30T06:00", shifts="06:00-14:00")

@@ -567,7 +567,7 @@ def test_a_search_finds_what_the_package_finds(client: FlaskClient) -> None:
 def test_a_proof_is_tried_where_no_job_is_held(
         client: FlaskClient, held: int | None, options: dict[str, Any], said: str, monkeypatch: pytest.MonkeyPatch,
         caplog: pytest.LogCaptureFixture) -> None:
-    """New jobs come after those that are held. Why a search has failed is told."""
+    """New jobs come after those that are held. Why a search has failed is reported."""
     optimum = mock.Mock(return_value=SimpleNamespace(optimal=False))
     monkeypatch.setattr(pfs.Instance, "optimum", optimum)
     monkeypatch.setattr(pfs.Instance, "solve", lambda _, **given: int(" ".join(
