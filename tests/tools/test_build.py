@@ -13,15 +13,20 @@ import pytest
 from support.needs import package_of, packages
 from support.tools import Done, output_of, run_tool, with_path, write_script
 
-# It notes its crate, proves `low` and `pfs`, and fails in `bad` and `left`. `one` ends once `two` has begun.
-RT = """#!/bin/sh
+# It locks its folders as `rt` does, notes its crate, proves `low` and `pfs`, and fails in `bad` and `left`. `one` ends
+# once `two` has begun. `low` is proved once, and `right` needs what that made.
+RT = """#!/bin/bash
 crate=${PWD##*/}
+for folder in $(sed 's/[ :].*//' ../../crates.txt); do
+    exec {held}< "../$folder" && flock -n $held || echo "waits in $folder" >> "$NOTES"
+done
 wait_for() { until grep -q "^$1" "$NOTES"; do sleep 0.01; done; }
 case $crate in one) wait_for low ;; two) wait_for one ;; free) wait_for bad ;; esac
 echo "$crate $1" >> "$NOTES"
 case $crate in
-low) echo 'goals=3'; echo 'logic=proved'; echo 'status=0' ;;
-right) echo 'no logic=proved' ;;
+low) mkdir -p out/part
+    [ -e out/part/made ] || { echo 'goals=3'; echo 'logic=proved'; echo 'status=0'; } | tee out/part/made ;;
+right) [ -e ../low/out/part/made ] && echo 'no logic=proved' ;;
 stopped) kill -INT $PPID; sleep 1 ;;
 pfs) cat; echo 'logic=proved' >&2 ;;
 left) printf 'goal left \\377 open\\n'; exit 7 ;;
@@ -45,9 +50,13 @@ esac
 ])
 def test_each_crate_is_built_once_after_those_below_it(targets: str, status: int, notes: str, stdout: str, said: str,
                                                        top: pathlib.Path, folder: pathlib.Path) -> None:
-    """And none after one that fails. What a log had before is left out."""
+    """And none after one that fails. What a log had before is left out. A second run proves nothing again. No copy is
+    left."""
+    copies = folder / (".git" if targets else "out") / "build"
+    if targets:
+        copies.mkdir(parents=True)
     (folder / "crates.txt").write_text("pfs: right low other\nright: low\nlow:\nabove: left\nleft: low\n"
-                                       "one staticlib:\ntwo: low\nstopped:\nbad:\nfree:\nthird:\n")
+                                       "one staticlib: low\ntwo: low\nstopped:\nbad:\nfree:\nthird:\n")
     for crate in ("pfs", "right", "low", "above", "left", "one", "two", "stopped", "bad", "free", "third"):
         (folder / "crates" / crate / "src").mkdir(parents=True)
     (folder / "crates" / "right" / "out").mkdir()
@@ -63,6 +72,8 @@ def test_each_crate_is_built_once_after_those_below_it(targets: str, status: int
     got = run_tool([build, *targets.split()], folder, env=env)
     assert got._replace(stderr=re.sub(r"(?<=0:00:0)\d", "0", got.stderr)) == Done(status, stdout, said.format(folder))
     assert ", ".join((folder / "notes").read_text().splitlines()) == notes
+    assert status == 1 or not [*copies.iterdir()]
+    assert "low lib" not in notes or run_tool([build, "right"], folder, env=env).stderr == ""
 
 
 # What others call: here each call is noted with the variables that it is given, and makes its files. It fails if it is
@@ -78,7 +89,7 @@ for word in "$@" "$COVERAGE_FILE"; do case $word in lib/out/* | */out/lines) ech
 """
 CALLED = ["tools/build", "tools/dist", "tools/install", "tools/library", "tools/setup", "tools/site/build",
           "tools/test", "tools/try", "tests/fuzz.py", "tests/mutants.py", "bin/ar", "bin/cc", "bin/ld", "bin/make",
-          "bin/my-cc", "bin/objcopy", "bin/python3", "bin/rt"]
+          "bin/my-cc", "bin/objcopy", "bin/python3", "bin/rt", "a kit/bin/rattle"]
 
 
 def calls_of(words: list[str], top: pathlib.Path, folder: pathlib.Path, fails: int = 0, given: str = "",
@@ -88,8 +99,9 @@ def calls_of(words: list[str], top: pathlib.Path, folder: pathlib.Path, fails: i
     place = folder / "ä b"
     for name in ("lib/out", "crates/pfs/out", "crates/pfs_c/out"):
         (place / name).mkdir(parents=True, exist_ok=True)
-    for name in ("crates/pfs/stdin", "crates/pfs_c/out/libpfs_c.a", "crates.txt", "notes"):
-        (place / name).write_text("the stored input\n" if "stdin" in name else "")
+    for name, text in {"crates/pfs/stdin": "the stored input\n", "crates/pfs_c/out/libpfs_c.a": "",
+                       "crates.txt": "pfs:\npfs_c staticlib: pfs core\n", "notes": ""}.items():
+        (place / name).write_text(text)
     for name in CALLED:
         write_script(place / name, NOTE)
     for name in {"Makefile", words[0]} - {"/bin/sh"}:
@@ -120,8 +132,9 @@ pfs on the stored instance, compiled with checks but not proved; this takes up t
 makespan 11: in the order of the file, the last job leaves the last machine at time 11.
 To prove every crate and leave a fast program in crates/pfs/out/pfs: make run
 """),
-    ".ci/run": (["tools/setup|all", "rt|ci", "tools/test", f"{PYTEST}-m|calls"],
-                "== . tools/setup all\n== . rt ci\n== . tools/test\n== . python3 -m pytest -n auto -q -m calls\n"),
+    ".ci/run": (["tools/setup|all", "rt|ci", "tools/library|--prove", "tools/test", f"{PYTEST}-m|calls"],
+                "== . tools/setup all\n== . rt ci\n== . tools/library --prove\n== . tools/test\n"
+                "== . python3 -m pytest -n auto -q -m calls\n"),
     "tools/hooks/pre-commit": (["make|-s|check"], ""),
 }
 
@@ -209,6 +222,19 @@ def test_the_library_is_made_by_the_compiler_that_is_named(top: pathlib.Path, fo
     got = run_tool([folder / "ä b" / "tools" / "library"], folder)
     missing = "crates/pfs_c/out/libpfs_c.a is missing: run tools/build pfs_c"
     assert got == Done(1, "", f"library: {missing}\n")
+
+
+def test_the_library_is_proved_over_what_rt_ci_left(top: pathlib.Path, folder: pathlib.Path) -> None:
+    kit = f"{folder}/ä b/a kit/START-HERE.md\n"
+    got, calls = calls_of(["tools/library", "--prove"], top, folder, given=kit)
+    assert (got, len(calls)) == (Done(0, "", ""), 9)
+    words = calls[1].split("|")
+    assert words[:2] == ["a kit/bin/rattle", "build"] and words[-2:] == ["-o", "out/libpfs_c.a"]
+    assert {word for word in words if "rlib" in word} == {
+        "pfs=../pfs/out/rlib/pfs.rlib", "dependency=../pfs/out/rlib", "core=a kit/rlibs/core.rlib",
+        "std=a kit/rlibs/std.rlib", "dependency=a kit/rlibs"}
+    got, calls = calls_of(["tools/library", "--prove"], top, folder, 2, kit)
+    assert (got.status, len(calls)) == (7, 2)
 
 
 # Packages
