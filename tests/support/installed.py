@@ -59,11 +59,11 @@ class Copy(NamedTuple):
         return output_of(["git", *words], self.top, env=self.env).strip()
 
     def built(self) -> list[str]:
-        """In which folders the kit has built since this was asked last."""
+        """Which crates the kit has built since this was asked last."""
         notes = pathlib.Path(self.env["RT_NOTES"])
         lines = notes.read_text().splitlines() if notes.exists() else []
         notes.unlink(missing_ok=True)
-        return lines
+        return [pathlib.Path(line).name for line in lines]
 
 
 def environment(folder: pathlib.Path, pfs: Program) -> dict[str, str]:

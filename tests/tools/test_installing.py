@@ -213,7 +213,7 @@ def test_a_program_that_is_older_than_a_source_or_missing_is_built_once(name: st
     try:
         os.utime(library, (NEW + 2, NEW + 2))
         path.unlink() if name == PROGRAM else os.utime(path, (NEW + 1, NEW + 1))
-        for built in ([str(copy.top / "crates" / "pfs")], []):
+        for built in (["pfs"], []):
             assert copy.make("install", f"DESTDIR={folder}").status == 0
             assert copy.built() == built
     finally:
