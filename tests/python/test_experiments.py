@@ -982,7 +982,7 @@ ARRAYS = {
 
 @pytest.mark.parametrize(("plan", "words", "array"), ARRAYS.values(), ids=ARRAYS)
 def test_slurm_is_asked_for_an_array_of(plan: str, words: list[str], array: str, experiment: Experiment) -> None:
-    """A dry run prints the line, which makes the runs, and submits nothing."""
+    """A dry run prints the line that another one calls, and submits nothing."""
     write_script(experiment.folder / "bin" / "sbatch", "#!/bin/sh\necho \"$@\" > submitted\n")
     env = with_path(experiment.folder / "bin")
     got = experiment.plan(plan).script("slurm", "--dry-run", *words, "plan.toml", "out.csv", "--time=5", env=env)
@@ -991,6 +991,9 @@ def test_slurm_is_asked_for_an_array_of(plan: str, words: list[str], array: str,
     assert not (experiment.folder / "out.csv").exists()
     assert run_tool(["sh", "-c", got.stdout], experiment.folder, env=env).status == 0
     submitted = (experiment.runs / "submitted").read_text().split()
+    (experiment.runs / "submitted").unlink()
+    assert experiment.script("slurm", *words, "plan.toml", "out.csv", "--time=5", env=env).status == 1, "none has run"
+    assert (experiment.runs / "submitted").read_text().split() == submitted
     assert {f"--array={array}", "--wait", f"--job-name={submitted[-1]}", "--dependency=singleton", "--time=5",
             "--output=slurm/%A-%a.log"} <= {*submitted}
     assert submitted[-2:] == [str(pathlib.Path(one.__file__).with_name("task")),
