@@ -941,6 +941,11 @@ def test_what_the_program_prints(folder: pathlib.Path, words: list[str], status:
     assert (done.returncode, done.stdout, done.stderr) == (status, out.replace("VERSION", version()), got)
 
 
+@pytest.mark.parametrize("module", ["pfs", "pfs.experiments", "pfs.web"])
+def test_each_command_line_is_a_module(module: str, tmp_path: pathlib.Path) -> None:
+    assert plainly.python("-m", module, "--version", cwd=tmp_path).stdout == f"pfs {version()}\n"
+
+
 @pytest.mark.parametrize("words", [["-m", "pfs", "plan", "times.csv", "--chart", "made.png"],
                                    ["-m", "pfs._gantt", "table", "made.png"]])
 def test_settings_of_matplotlib_in_the_current_folder_change_no_picture(tmp_path: pathlib.Path,
