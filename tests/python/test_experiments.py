@@ -159,7 +159,7 @@ REFUSED: dict[str, tuple[int, str, str, str, dict[str, str]]] = {
                         {"PATH": "/none"}),
     "no Slurm": (4, "slurm plan.toml out.csv", "sbatch is not installed (Debian: slurm-client)", "", {"PATH": "/none"}),
     "no words": (3, "run", "required: PLAN, CSV (pfs-experiments run --help ", "", {}),
-    "another option": (3, "check out.csv --jobs", "--jobs", "", {}),
+    "other options": (3, "check out.csv --jobs --all", "unrecognized arguments: --jobs --all (", "", {}),
     "an instance that isn't made": (2, "taillard .", "/program generate 20 5 873654221 failed: exit 3\n",
                                     "#!/bin/sh\n[ $2 = 1 ] || exit 3\nprintf '1 1 1 0 0\nprocessing times :\n1\n'", {}),
     "no tasks": (3, "slurm plan.toml out.csv --tasks 0", "from 1 to 1,000,000,000 ", "", {}),
