@@ -946,6 +946,13 @@ def test_each_command_line_is_a_module(module: str, tmp_path: pathlib.Path) -> N
     assert plainly.python("-m", module, "--version", cwd=tmp_path).stdout == f"pfs {version()}\n"
 
 
+def test_an_experiment_needs_a_command(tmp_path: pathlib.Path) -> None:
+    done = plainly.python("-m", "pfs.experiments", cwd=tmp_path)
+    assert (done.returncode, done.stdout, done.stderr) == (
+        3, "", "pfs-experiments: the following arguments are required: COMMAND (pfs-experiments --help lists what there "
+               "is)\n")
+
+
 @pytest.mark.parametrize("words", [["-m", "pfs", "plan", "times.csv", "--chart", "made.png"],
                                    ["-m", "pfs._gantt", "table", "made.png"]])
 def test_settings_of_matplotlib_in_the_current_folder_change_no_picture(tmp_path: pathlib.Path,
