@@ -948,9 +948,8 @@ def test_each_command_line_is_a_module(module: str, tmp_path: pathlib.Path) -> N
 
 def test_an_experiment_needs_a_command(tmp_path: pathlib.Path) -> None:
     done = plainly.python("-m", "pfs.experiments", cwd=tmp_path)
-    assert (done.returncode, done.stdout, done.stderr) == (
-        3, "", "pfs-experiments: the following arguments are required: COMMAND (pfs-experiments --help lists what there "
-               "is)\n")
+    said = "pfs-experiments: the following arguments are required: COMMAND (pfs-experiments --help lists what there is)"
+    assert (done.returncode, done.stdout, done.stderr) == (3, "", f"{said}\n")
 
 
 @pytest.mark.parametrize("words", [["-m", "pfs", "plan", "times.csv", "--chart", "made.png"],
