@@ -44,7 +44,7 @@ def beginning(given: argparse.Namespace, shop: Instance, found: FoundOrder, cale
 
 
 def left_at(shop: Instance, found: FoundOrder, calendar: Calendar, moment: str, down: Iterable[tuple[str, str]],
-            path: str = "the plan") -> tuple[Rest, datetime]:
+            path: str | None = None) -> tuple[Rest, datetime]:
     """What is left of an order at a moment, and after it the jobs that the order lacks; and when work continues.
     Machines are down until these moments."""
     clock, now = Clock(calendar, shop), begin_of(moment)
@@ -56,7 +56,7 @@ def left_at(shop: Instance, found: FoundOrder, calendar: Calendar, moment: str, 
     return rest_of(shop, found.jobs, at, down_until(down, clock, shop, at), new), calendar.start(clock.worked(at))
 
 
-def check_gone(path: str, shop: Instance, found: FoundOrder, at: int) -> None:
+def check_gone(path: str | None, shop: Instance, found: FoundOrder, at: int) -> None:
     """A job that the table lacks has delayed those after it, if one of them has begun."""
     places = np.flatnonzero(begun(*spans_of(shop, found.jobs), at))
     last = int(places.max(initial=-1))
