@@ -37,7 +37,7 @@ def values(shop: pfs.Instance) -> list[list[Fraction]]:
 
 def assert_is_read_again(path: pathlib.Path, shop: pfs.Instance, delimiter: str, mark: bool) -> None:
     write_table(str(path), shop, delimiter, mark)
-    read = table_of(path, "", allow_totals=True)
+    read = table_of(path, "", None, allow_totals=True)
     assert (read.shop.job_names, read.shop.machine_names, values(read.shop)) == (
         shop.job_names, shop.machine_names, values(shop))
     assert read.shop.unit == shop.unit or not shop.times.any()

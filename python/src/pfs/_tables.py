@@ -246,7 +246,7 @@ def read_csv(source: str | os.PathLike[str], unit: str = "", *, decimal: str | N
     return found.shop
 
 
-def table_of(source: str | os.PathLike[str], unit: str, decimal: str | None = None, allow_totals: bool = False,
+def table_of(source: str | os.PathLike[str], unit: str, decimal: str | None, allow_totals: bool,
              machines: Iterable[str] | None = None, sheet: str | None = None,
              most_decimals: int | None = None) -> Table:
     """Read a table. The parameters are those of `read_csv`."""
