@@ -121,6 +121,14 @@ def test_a_workbook_that_has_only_the_sheet_pfs(tmp_path: pathlib.Path) -> None:
     assert ended(["plan", "times.xlsx"], tmp_path)[::2] == (0, "")
 
 
+def test_a_plan_says_which_sheet_it_reads(tmp_path: pathlib.Path) -> None:
+    book_of(tmp_path / "times.xlsx", *ROWS, title="new", old=ROWS[:2])
+    assert ended(["plan", "times.xlsx"], tmp_path)[2] == (
+        "pfs: times.xlsx: the sheet 'new' is read, and not 'old' (--sheet)\n"
+        "2 jobs, 2 machines (saw, drill), times in min\n")
+    assert ended(["plan", "times.xlsx", "--sheet", "old"], tmp_path)[::2] == (0, "")
+
+
 # Rows and columns that are hidden
 
 @pytest.mark.parametrize(("rows", "columns", "said"), [

@@ -252,16 +252,17 @@ REQUESTS: list[tuple[str, dict[str, Any]]] = [
 @pytest.mark.seconds(5)
 @pytest.mark.parametrize(("path", "body"), REQUESTS)
 def test_no_value_at_any_place_is_a_fault_of_the_server(path: str, body: dict[str, Any]) -> None:
-    """One of another kind is of another form; null stands for what is missing."""
+    """One of another kind is of another form, as is half of a letter; null stands for what is missing."""
     found = searches.Searches(1)
     client = client_here(found)
     for place, value in itertools.product(leaves(body), VALUES):
         changed: Any = {"": copy.deepcopy(body)}
         way: list[Any] = ["", *place]
         at = functools.reduce(operator.getitem, way[:-1], changed)
-        is_other, at[way[-1]] = type(value) not in (type(None), type(at[way[-1]])), value
+        is_other = value == "\ud800" or type(value) not in (type(None), type(at[way[-1]]))
+        at[way[-1]] = value
         status, error = refused(client, path, changed[""])
-        assert status in ([400] if is_other else [200, 400, 422, 429, 503]), f"{place}: {value}: {error}"
+        assert status in ([400] if is_other else [200, 400, 422, 429, 503]), f"{place}: {value!r}: {error}"
     found.end_all()
 
 
