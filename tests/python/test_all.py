@@ -198,7 +198,7 @@ def test_a_thread_that_cant_be_started_and_memory_that_runs_out(monkeypatch: pyt
     ({"take": 9}, ValueError, "take must be from 1 to 8, not 9"),
     ({"time_limit": -1}, ValueError, "time_limit must be 0 or more seconds, not -1.0"),
     ({"workers": 0}, ValueError, "workers must be from 1 to 1,000, not 0"),
-    ({"progress": 3}, TypeError, "progress must be callable"),
+    ({"progress": 3}, TypeError, "progress must be callable, not 3$"),
     ({"found": {(0, 1): 7}}, TypeError, "found must contain solutions, not 7"),
     ({"found": {(0, 1): pfs.generate(8, 2, 1).neh()}}, ValueError,
      "found is an order for 2 machines, but the instance has 3"),

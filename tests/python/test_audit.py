@@ -92,6 +92,8 @@ def test_the_first_job_is_that_of_most_orders_of_a_method() -> None:
     undecided = pfs.audit(rows[2:], [SMALL])
     assert [each.verdict for each in undecided] == ["unclear", "unclear", "job twice"]
     assert undecided[0].why.startswith(text) and undecided[0][3:7] == (11, None, 10, False)
+    without = [row | {"method": ""} for row in rows[2:4]]
+    assert pfs.audit(without, [SMALL])[0].why.startswith(text.replace(" of b", ""))
     with pytest.raises(ValueError, match=f"row 0: {text}"):
         pfs.audit(rows[2:], [SMALL], strict=True)
     stated = pfs.audit(rows[2:], [SMALL], first=0)

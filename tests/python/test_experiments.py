@@ -79,6 +79,7 @@ INVALID = {
     "command: No closing quotation": MINE + """command = "a '{instance}"\n""",
     "{}, but there are only {block}, {instance}, {jobs}, {machines}, {name}, {seconds}, {seed}":
     MINE + 'command = "a {instance} {}"\n', "command contains {x}, but there are only": GRID,
+    "command contains {a}, but": MINE + 'command = "a {instance} {e} {d} {c} {b} {a}"\n',
     "command contains {seconds}, which needs time_factors": MINE + 'command = "a {instance} {seconds}"\n',
     "command must contain {block}": MINE + 'blocks = [2]\ncommand = "a {instance}"\n',
     **{f"{key} is for pfs, not for a command": f'{MINE}{key} = {value}\ncommand = "a {{instance}}"\n'

@@ -451,6 +451,14 @@ def test_sizes_over_the_limits_and_other_texts_are_rejected_at_once(folder: path
     assert gantt(folder, "table", "picture.svg", text=text) == Done(2, "", f"pfs-gantt: {said}\n")
 
 
+@pytest.mark.parametrize(("bound", "said"), [
+    *((bound, f"the bound {bound} exceeds the makespan 10") for bound in ("11", "9" * 18)),
+    (f"1{'0' * 18}", f"argument --bound: '1{'0' * 18}' is not a whole number from 0 to {'999,' * 5}999 "
+                     "(pfs-gantt --help lists what there is)")])
+def test_bounds_that_are_too_large(folder: pathlib.Path, bound: str, said: str) -> None:
+    assert gantt(folder, "--bound", bound, "table", "picture.svg") == Done(3, "", f"pfs-gantt: {said}\n")
+
+
 @pytest.mark.parametrize(("status", "words", "text"), [
     *((2, ["table", "picture.svg"], text) for text in BAD.values()),
     *((3, words, THREE) for words in BAD_WORDS.values()), *((4, words, THREE) for words in REFUSED.values())],

@@ -360,10 +360,11 @@ def test_workbooks_need_openpyxl(tmp_path: pathlib.Path, monkeypatch: pytest.Mon
 
 
 @pytest.mark.parametrize("more", [0, 1])
-def test_a_row_may_have_as_many_cells_as_a_spreadsheet(tmp_path: pathlib.Path, more: int) -> None:
-    path = written(tmp_path, 'job,"saw\n"\nchair,3' + "," * (16_382 + more) + "\n")
+@pytest.mark.parametrize(("line", "text"), [(3, 'job,"saw\n"\nchair,3{}\n'), (1, "job,saw{}\nchair,3\n")])
+def test_a_row_may_have_as_many_cells_as_a_spreadsheet(tmp_path: pathlib.Path, more: int, line: int, text: str) -> None:
+    path = written(tmp_path, text.format("," * (16_382 + more)))
     if more:
-        with pytest.raises(pfs.TableFault, match="line 3, the row has more than 16,384 cells"):
+        with pytest.raises(pfs.TableFault, match=f"line {line}, the row has more than 16,384 cells"):
             pfs.read_csv(path)
     else:
         assert pfs.read_csv(path).times.tolist() == [[3]]

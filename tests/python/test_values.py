@@ -198,6 +198,7 @@ def test_each_parameter_is_compared(kind: type[Any]) -> None:
     for name in COMPARED[kind]:
         one, other = made_of(kind), made_of(kind, name)
         assert not one == other and one != other, f"two of another {name} are equal"
+    assert (made_of(kind) == 5) is False
 
 
 def kept_by(thing: Any) -> dict[str, Any]:

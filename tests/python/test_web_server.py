@@ -116,9 +116,11 @@ def test_a_browser_opens_where_there_is_a_screen(words: list[str], screen: str, 
         monkeypatch.setattr(name, mock.Mock())
     for name in ("DISPLAY", "WAYLAND_DISPLAY"):
         monkeypatch.setenv(name, ":0") if name == screen else monkeypatch.delenv(name, raising=False)
+    monkeypatch.setattr("pfs.web.searches.Searches", made := mock.Mock())
     monkeypatch.chdir(token_file.parent)
     assert web.serve(web.words().parse_args([*words, "--port", "1"])) == 0
     assert ["url=http://127.0.0.1:1/#" in text for text in opened] == [True] * is_opened
+    made.return_value.end_all.assert_called_once_with()
 
 
 # Its limits

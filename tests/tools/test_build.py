@@ -115,8 +115,8 @@ def calls_of(words: list[str], top: pathlib.Path, folder: pathlib.Path, fails: i
 
 PYTEST = "python3|-m|pytest|-n|auto|-q|"
 COVERED = "--cov=python/src/pfs|--cov-branch|--cov-context=test|"
-MINUTES = {"packages": 1, "layout, types, scripts and pages": 1, "proofs of the program and of the library": 33,
-           "tests of what is built": 13, "changes of the package for Python": 4}
+MINUTES = {"packages": 1, "layout, types, scripts and pages": 1, "proofs of the program and of the library": 20,
+           "tests of what is built": 7, "changes of the package for Python": 2}
 # For each script what it calls, and what it prints, with points in place of times.
 SCRIPTS = {
     "tools/test": (
