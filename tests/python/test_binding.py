@@ -246,6 +246,14 @@ def test_nothing_is_printed_when_python_ends_with_an_instance(tmp_path: pathlib.
     assert (done.stdout, done.stderr, done.returncode) == ("1232\n", "", 0)
 
 
+def test_sequences_that_are_just_short_or_long() -> None:
+    shop = pfs.Instance([[1]] * 300)
+    for count in range(_library.SHORT - 3, _library.SHORT + 3):
+        jobs = range(count)
+        assert shop.makespan(jobs) == count and shop.best_place(jobs, 299) == (0, count + 1)
+        assert shop.places(jobs, 299).tolist() == [count + 1] * (count + 1)
+
+
 # A call from Python costs little more than what it computes
 
 @pytest.mark.parametrize("kind", ["list", "int64", "uint32"])

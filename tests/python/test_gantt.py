@@ -63,7 +63,7 @@ BAD_WORDS = {
     "an option with such bytes": ["--x\x1b[2J", "table", "picture.svg"],
     "a name that is not UTF-8": ["table", os.fsdecode(b"ch\xe4rt.gif")],
 }
-# What the system refuses.
+# What the system rejects.
 REFUSED = {
     "a folder's name": ["table", "folder.svg"],
     "a folder that is missing": ["table", "nowhere/picture.svg"],
@@ -446,6 +446,7 @@ def test_a_missing_module_is_named_with_its_package(main: Callable[[], int], lin
     *((THREE.replace("3 2", size, 1), "a time table has at most 5,000 jobs and 200 machines")
       for size in ("5001 1", "1 201", "5001 201", "20 1000", "100000 1")),
     ("", "not a time table: the first line must be `table N M`"),
+    (THREE.replace("\n3 5", "\n2 5"), "each of the jobs 1 to 3 must have one line"),
     (THREE[:-1], "the time table is incomplete: its last line has no line end")])
 def test_sizes_over_the_limits_and_other_texts_are_rejected_at_once(folder: pathlib.Path, text: str, said: str) -> None:
     assert gantt(folder, "table", "picture.svg", text=text) == Done(2, "", f"pfs-gantt: {said}\n")

@@ -199,7 +199,7 @@ WRONG = [
 
 @pytest.mark.parametrize(("words", "why"), WRONG)
 def test_what_is_rejected(folder: pathlib.Path, words: list[str], why: str) -> None:
-    (folder / "gone").write_text("chair\ndesk\ntable\nlamp\nbox\n")
+    (folder / "gone").write_text("chair\ndesk;5\ntable\nlamp\nbox\n")
     assert plan(folder, *words, status=3) == ([], f"pfs: {why}\n")
     for text in ("saw", "saw=9:00"):
         assert ended(["plan", "times.csv", *WEEK, "--down", text], folder)[0] == 3

@@ -280,6 +280,7 @@ def test_jobs_by_their_names() -> None:
         assert shop.solve(0, start=order).order.tolist() == [1, 0, 2]
     assert shop.makespan(["box"]) == 5 and shop.makespan([]) == 0
     assert shop.solve(1, hold=["box", "table"]).order.tolist() == [2, 0, 1]
+    assert shop.solve(1, hold=pfs.Solution([1, 2, 0], 1)).order.tolist() == [1, 2, 0]
 
 
 # Building blocks of search methods: heads and tails, construction and local search

@@ -308,7 +308,7 @@ def record_improvements(search: Search, before: Part, target: int, begun: float,
 
 def numbers_of(given: Jobs, shop: Instance, what: str) -> list[int]:
     """Return the numbers of distinct jobs, given by number or by name."""
-    own, count = as_uint32_bytes(getattr(given, "order", given), what, shop.job_names)
+    own, count = as_uint32_bytes(given, what, shop.job_names)
     number = shop._call("pfs_makespan", own, count, byref(c_uint64()))
     if number != c.OK:
         raise jobs_error(number, shop.jobs, own, what)

@@ -256,7 +256,7 @@ def write_csv(experiment: Experiment, csv_path: str) -> tuple[int, int]:
     more = [column for column in ("time_factor", "method", "trajectory", "proved_bound")
             if any(row.get(column) for row in (*experiment.runs, *rows))]
     columns = [*COLUMNS, *more]
-    write_text(csv_path, csv_text([columns, *([row.get(column, "") for column in columns] for row in rows)]))
+    write_text(csv_path, csv_text([columns, *([*map(row.get, columns)] for row in rows)]))
     failed, left = sum(row["status"] != "ok" for row in rows), len(experiment.runs) - len(rows)
     report_errors(rows)
     killed = sum(int(row.get("left") or 0) for row in rows)
