@@ -109,7 +109,7 @@ def test_a_port_that_is_taken_and_a_missing_file_are_reported(server: Server, tm
     (["--token-file", "token"], "DISPLAY", False)])
 def test_a_browser_opens_where_there_is_a_screen(words: list[str], screen: str, is_opened: bool,
                                                  token_file: pathlib.Path, monkeypatch: pytest.MonkeyPatch) -> None:
-    """Its address is in a file, which other users can't read."""
+    """Its address is in a file, which other users can't read. The searches end with the server."""
     opened = list[str]()
     monkeypatch.setattr("webbrowser.open", lambda uri: opened.append(pathlib.Path(uri[7:]).read_text()))
     for name in ("signal.signal", "logging.basicConfig", "pfs.web.app.made", "waitress.create_server"):
