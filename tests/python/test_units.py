@@ -148,6 +148,15 @@ def test_ten_kinds_of_errors_are_reported(capsys: pytest.CaptureFixture[str]) ->
     run.report_errors([*rows, {"status": "ok"}, {"instance": "j", "seed": "9", "status": "x 7"}])
     lines = [f"i (seed {at}) failed: {'x' * at} {at}\n" for at in range(2, 11)]
     assert capsys.readouterr().err == "".join(["i (seed 1) and 1 more failed: x 1\n", *lines])
+    run.report_errors([*rows, {"instance": "i", "status": "y"}])
+    assert capsys.readouterr().err == "".join(["i (seed 1) failed: x 1\n", *lines, "1 more kinds of errors\n"])
+
+
+@pytest.mark.parametrize(("status", "done", "retried"), [
+    (None, False, False), ("ok", True, True), ("solve: exit 1", True, False), ("solve: signal 9", False, False)])
+def test_which_runs_are_made_again(status: str | None, done: bool, retried: bool) -> None:
+    assert (run.is_done(status, retry=False), run.is_done(status, retry=True)) == (done, retried)
+    assert run.result_of(b"") is run.result_of(b"\n") is None
 
 
 def test_runs_that_were_lost_come_last(tmp_path: pathlib.Path, monkeypatch: pytest.MonkeyPatch) -> None:
