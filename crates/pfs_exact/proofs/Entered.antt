@@ -11,18 +11,18 @@ use Rattle.pfs_exact.specs.MostNodes.{most_nodes}
 use Rattle.pfs_exact.specs.Private.Nodes.{IsOpen}
 use Rattle.pfs_exact.proofs.Sides.{absent}
 
--- these are at neither end, and unless the budget is used up none of their numbers is below the best makespan; with many
--- jobs between, each took as many nodes as there can be with one job less
+-- these are at neither end, and none of their numbers is below the goal; with many jobs between, each took at most as many
+-- nodes as there can be with one job less
 pub record AreEntered (size many : ℕ) (placed bounds : List ℕ) (best start left : ℕ) (entered : List ℕ) : Type 0 where
   pub sequence : IsSequence size (entered ++ placed)
-  pub closed : 1 ≤ left → (job : ℕ) → Contains entered job → best ≤ get_or bounds job 0
+  pub closed : (job : ℕ) → Contains entered job → best ≤ get_or bounds job 0
   pub few : start ≤ left + 1 + length entered * most_nodes (many - 1)
 
 pub none_entered : (size many : ℕ) (placed bounds : List ℕ) (best start left : ℕ) → start ≤ left + 1
     → IsSequence size placed → AreEntered size many placed bounds best start left []
 none_entered size many placed bounds best start left few sequence = record {
   sequence = sequence;
-  closed = λ some job (at, within, found). absurd (omega arith);
+  closed = λ job (at, within, found). absurd (omega arith);
   few = omega arith;
 }
 
@@ -32,23 +32,22 @@ among_more entered job other differ (suc at, within, found) = (at, omega arith, 
 
 module _ (size many : ℕ) (front back bounds entered : List ℕ) (best start left job : ℕ)
     (are : AreEntered size many (front ++ back) bounds best start left entered) where
-  -- a job with a number below the best makespan was not searched yet
-  pub one_more : (better less number : ℕ) → job < size → job < length bounds → 1 ≤ left → IsOpen front back job
-      → get_or bounds job 0 < best → better ≤ best → (1 ≤ less → better ≤ number) → less < left
+  -- a job with a number below the goal was not searched yet
+  pub one_more : (better less number : ℕ) → job < size → job < length bounds → IsOpen front back job
+      → get_or bounds job 0 < best → better ≤ best → better ≤ number
       → left ≤ less + most_nodes (many - 1)
       → AreEntered size many (front ++ back) (set bounds job number) better start less (job ∷ entered)
-  one_more better less number small within some outside below no_longer enough fewer few =
-      let new : Contains entered job → ⊥ = λ among. let above = are.closed some job among in omega arith in
+  one_more better less number small within outside below no_longer enough few =
+      let new : Contains entered job → ⊥ = λ among. let above = are.closed job among in omega arith in
       record {
         sequence = IsSequence-cons size job (entered ++ (front ++ back)) small
             (absent entered (front ++ back) job (new, absent front back job outside)) are.sequence;
-        closed = λ some_left other among. elim (cases_eq other job) [
+        closed = λ other among. elim (cases_eq other job) [
           | inl is ↦
               let same = get_or-set_same bounds job number 0 within in
-              let above = enough some_left in
               subst (λ j. better ≤ get_or (set bounds job number) j 0) (sym is) (omega arith)
           | inr differ ↦
-              let before = are.closed (omega arith) other (among_more entered job other differ among) in
+              let before = are.closed other (among_more entered job other differ among) in
               let kept = get_or-set_other bounds job other number 0 differ in
               omega arith
         ];

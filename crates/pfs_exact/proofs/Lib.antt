@@ -1,7 +1,14 @@
-mod Arrays
+pub mod Arrays
 mod Bounds
+mod Cells
+mod Covering
+mod Eight
 mod Entered
-mod Heads
-mod Machines
-mod Sides
+mod Gathered
+pub mod Heads
+mod LaneBounds
+pub mod Machines
+mod Searching
+pub mod Sides
 mod Through
+mod Vectors

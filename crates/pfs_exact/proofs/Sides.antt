@@ -14,7 +14,7 @@ use Rattle.pfs_order.proofs.Published.Sequences.{IsSequence-head, IsSequence-res
 use Rattle.pfs_order.proofs.Published.Sequences.{length-le-size}
 use Rattle.pfs_audit.specs.Bound.{IsLowerBound}
 use Rattle.pfs_exact.specs.declared.ends.Ends.{Ends}
-use Rattle.pfs_exact.specs.Private.Nodes.{AreCleared, AreEnds, IsChild, IsFull, IsOpen, IsSome, NoneShorter, put_of, taken_of}
+use Rattle.pfs_exact.specs.Private.Nodes.{AreCleared, AreEnds, Every, IsFull, IsOpen, IsSome, NoneShorter, put_of, taken_of}
 
 -- ---- jobs between
 
@@ -100,39 +100,37 @@ module _ (shop : FlowShop) (front : List ℕ) (job : ℕ) (middle back : List �
         IsSequence-head shop.jobs job back rest,
       )
 
--- ---- children
+-- ---- any property of whole orders, by one more job at an end
 
-front_children : (shop : FlowShop) (front back : List ℕ) (number : ℕ) → length front + length back < shop.jobs
-    → ((job : ℕ) → job < shop.jobs → IsOpen front back job → NoneShorter shop (front ++ job ∷ []) back number)
-    → NoneShorter shop front back number
-front_children shop front back number short kids [] full =
+pub front_every : (shop : FlowShop) (P : List ℕ → Type 0) (front back : List ℕ) → length front + length back < shop.jobs
+    → ((job : ℕ) → job < shop.jobs → IsOpen front back job → Every shop P (front ++ job ∷ []) back) → Every shop P front back
+front_every shop P front back short kids [] full =
     let len = length-append front back in let all = full.full in absurd (omega arith)
-front_children shop front back number short kids (job ∷ more) full =
-    let child = kids job (first_small shop front job more back full) (first_open shop front job more back full) more
-    (to_front shop front job more back full) in
-    rw (front_as shop front job more back) at child
+front_every shop P front back short kids (job ∷ more) full =
+    subst P (front_as shop front job more back)
+    (kids job (first_small shop front job more back full) (first_open shop front job more back full) more
+    (to_front shop front job more back full))
 
-abbrev IsLong : FlowShop → List ℕ → List ℕ → ℕ → List ℕ → Type 0
-IsLong shop front back number middle = IsFull shop front middle back → number ≤ makespan shop (front ++ (middle ++ back))
+abbrev IsOfEvery : FlowShop → (List ℕ → Type 0) → List ℕ → List ℕ → List ℕ → Type 0
+IsOfEvery shop P front back middle = IsFull shop front middle back → P (front ++ (middle ++ back))
 
-back_children : (shop : FlowShop) (front back : List ℕ) (number : ℕ) → length front + length back < shop.jobs
-    → ((job : ℕ) → job < shop.jobs → IsOpen front back job → NoneShorter shop front (job ∷ back) number)
-    → NoneShorter shop front back number
-back_children shop front back number short kids =
-    by_push (IsLong shop front back number)
+pub back_every : (shop : FlowShop) (P : List ℕ → Type 0) (front back : List ℕ) → length front + length back < shop.jobs
+    → ((job : ℕ) → job < shop.jobs → IsOpen front back job → Every shop P front (job ∷ back)) → Every shop P front back
+back_every shop P front back short kids =
+    by_push (IsOfEvery shop P front back)
     (λ full. let len = length-append front back in let all = full.full in absurd (omega arith))
     (λ more job before full.
-    let child = kids job (last_small shop front job more back full) (last_open shop front job more back full) more
-    (to_back shop front job more back full) in
-    rw (back_as shop front job more back) at child)
+    subst P (back_as shop front job more back)
+    (kids job (last_small shop front job more back full) (last_open shop front job more back full) more
+    (to_back shop front job more back full)))
 
--- if no child has a shorter order, the node has none
-pub by_children : (shop : FlowShop) (ends : Ends) (forward : Bool) (number : ℕ)
+pub every_children : (shop : FlowShop) (P : List ℕ → Type 0) (ends : Ends) (forward : Bool)
     → length ends.front.jobs + length ends.back.jobs < shop.jobs
-    → ((job : ℕ) → job < shop.jobs → IsOpen ends.front.jobs ends.back.jobs job → IsChild shop ends forward job number)
-    → NoneShorter shop ends.front.jobs ends.back.jobs number
-by_children shop ends true number short kids = front_children shop ends.front.jobs ends.back.jobs number short kids
-by_children shop ends false number short kids = back_children shop ends.front.jobs ends.back.jobs number short kids
+    → ((job : ℕ) → job < shop.jobs → IsOpen ends.front.jobs ends.back.jobs job
+    → Every shop P (put_of forward ends job).front.jobs (put_of forward ends job).back.jobs)
+    → Every shop P ends.front.jobs ends.back.jobs
+every_children shop P ends true short kids = front_every shop P ends.front.jobs ends.back.jobs short kids
+every_children shop P ends false short kids = back_every shop P ends.front.jobs ends.back.jobs short kids
 
 -- ends that have all jobs have one order
 pub by_itself : (shop : FlowShop) (front back : List ℕ) (number : ℕ) → shop.jobs ≤ length front + length back

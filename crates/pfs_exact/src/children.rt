@@ -1,11 +1,14 @@
 //! The nodes with one more job at an end, and numbers that none of their orders is shorter than.
 ghost use Rattle.std.specs.Prelude.{◌≡◌, ℕ, ◌+◌, ◌<◌, ◌≤◌, List, [], ◌∷◌, ◌++◌, length, slice_index};
 ghost use Rattle.pfs_audit.specs.Bound.{IsLowerBound};
+ghost use Rattle.pfs_exact.specs.Private.Blocks.{IsTable};
 ghost use Rattle.pfs_exact.specs.Private.Nodes.{AreBounds, AreEnds, AreLeast, IsNode, NoneShorter};
 
+use crate::eights::eights_of;
 use crate::ends::{Ends, mark_open};
 use crate::node::{Node, copy, least_times, plus, raise};
 use crate::prove::{MOST_PROVED_JOBS, MOST_PROVED_MACHINES};
+use crate::table::Table;
 use pfs_base::Instance;
 
 /// The number of a job that is at an end.
@@ -29,6 +32,7 @@ pub(crate) fn children_of(
     instance: &Instance,
     ends: &Ends,
     floor: u64,
+    table: &mut Table,
     node: &mut Node,
     room: &mut Room,
 ) -> bool
@@ -36,11 +40,16 @@ pub(crate) fn children_of(
     requires machines { instance.now.shop.machines ≤ MOST_PROVED_MACHINES }
     requires ends { AreEnds instance.now.shop.jobs ends.now }
     requires some { length ends.now.front.jobs + length ends.now.back.jobs < instance.now.shop.jobs }
+    requires table { IsTable instance.now.shop table.old }
     requires node { IsNode instance.now.shop ends.now.front.jobs ends.now.back.jobs node.old }
     requires floor { IsLowerBound instance.now.shop floor }
+    ensures table { IsTable instance.now.shop table.new }
     ensures node { IsNode instance.now.shop ends.now.front.jobs ends.now.back.jobs node.new }
     ensures bounds { AreBounds instance.now.shop ends.now result instance.now.shop.jobs room.new.bounds }
 {
+    if table.blocks > 0 {
+        return eights_of(instance, ends, floor, table, node, room);
+    }
     mark_open(instance, ends, &mut room.marks);
     least_times(instance, ends, &room.marks, &mut room.least);
     raise(instance, ends, &room.least, node);

@@ -5,9 +5,16 @@
 
 mod branch;
 mod children;
+mod eights;
 mod ends;
+mod lanes;
 mod node;
 mod pairs;
+mod parts;
 mod prove;
+mod table;
 
-pub use prove::{MOST_PROVED_JOBS, MOST_PROVED_MACHINES, Proved, prove_order};
+pub use parts::{Part, nothing_left, part_bounded, part_searched, parts_bounded};
+pub use prove::{
+    MOST_PROVED_JOBS, MOST_PROVED_MACHINES, Proved, Searched, prove_order, prove_parts,
+};

@@ -1,11 +1,14 @@
 -- Orders that begin and end with some jobs, how short they can be, and what a node of the search keeps of them. Jobs and
 -- machines count from 0.
 use Rattle.std.specs.Prelude.{◌≡◌, ℕ, zero, suc, Bool, true, false, ◌+◌, ◌-◌, ◌<◌, ◌≤◌, List, [], ◌∷◌, ◌++◌, length}
-use Rattle.std.specs.Prelude.{slice_index, slice_index_or, remove, sum_by, Contains}
+use Rattle.std.specs.Prelude.{slice_index, slice_index_or, remove, sum_by, Contains, min, ◌⊎◌, All}
 use Rattle.pfs_base.specs.FlowShop.{FlowShop, time_of}
 use Rattle.pfs_base.specs.Paths.{heaviest, operation, makespan}
 use Rattle.pfs_order.specs.Sequence.{IsSequence}
 use Rattle.pfs_audit.specs.Bound.{time_on, IsLowerBound}
+pub use Rattle.pfs_exact.specs.Parts.{IsFull, NoneShorter}
+use Rattle.pfs_exact.specs.Parts.{IsPart, IsInSome}
+use Rattle.pfs_exact.specs.Private.Blocks.{IsTable}
 use Rattle.pfs_exact.specs.declared.branch.Work.{Work}
 use Rattle.pfs_exact.specs.declared.children.TheConstants.{CLOSED}
 use Rattle.pfs_exact.specs.declared.ends.Ends.{Ends}
@@ -24,16 +27,6 @@ times_on shop machine jobs = sum_by (λ job. time_of shop job machine) jobs
 abbrev pub AreHeads : FlowShop → List ℕ → ℕ → List ℕ → Type 0
 AreHeads shop jobs rows heads =
     (machine : ℕ) → machine < shop.machines → slice_index heads machine ≡ head_of shop jobs rows machine
-
--- the first jobs, those between and the last ones are all jobs
-pub record IsFull (shop : FlowShop) (front middle back : List ℕ) : Type 0 where
-  pub sequence : IsSequence shop.jobs (front ++ (middle ++ back))
-  pub full : length (front ++ (middle ++ back)) ≡ shop.jobs
-
--- each order of all jobs that begins and ends with these has a makespan of at least this number
-abbrev pub NoneShorter : FlowShop → List ℕ → List ℕ → ℕ → Type 0
-NoneShorter shop front back number =
-    (middle : List ℕ) → IsFull shop front middle back → number ≤ makespan shop (front ++ (middle ++ back))
 
 -- a job is at neither end
 abbrev pub IsOpen : List ℕ → List ℕ → ℕ → Type 0
@@ -145,7 +138,8 @@ pub record AreBounds (shop : FlowShop) (ends : Ends) (forward : Bool) (many : �
 
 -- ---- the search
 
--- the best order has all jobs and this makespan, and no order is shorter than the floor
+-- the best order has all jobs and this makespan, no order is shorter than the floor, the parts' bounds hold, and the table
+-- is the shop's
 pub record IsWork (shop : FlowShop) (work : Work) : Type 0 where
   pub ends : AreEnds shop.jobs work.ends
   pub size : work.best.size ≡ shop.jobs
@@ -153,3 +147,36 @@ pub record IsWork (shop : FlowShop) (work : Work) : Type 0 where
   pub full : length work.best.jobs ≡ shop.jobs
   pub exact : work.makespan ≡ makespan shop work.best.jobs
   pub floor : IsLowerBound shop work.floor
+  pub table : IsTable shop work.table
+  pub parts : All (IsPart shop) work.parts.items
+
+-- only an order with a makespan below this number is wanted
+abbrev pub goal_of : Work → ℕ
+goal_of work = min work.makespan work.limit
+
+-- an order is not wanted, or is in a part that is left
+abbrev pub IsDone : FlowShop → Work → List ℕ → Type 0
+IsDone shop work order = (goal_of work ≤ makespan shop order) ⊎ IsInSome order work.parts.items
+
+-- what holds of all orders of a node
+abbrev pub Every : FlowShop → (List ℕ → Type 0) → List ℕ → List ℕ → Type 0
+Every shop Is front back = (middle : List ℕ) → IsFull shop front middle back → Is (front ++ (middle ++ back))
+
+-- a search goes on: nothing that is done gets undone, and parts are left only where the nodes are used up
+pub record Continues (shop : FlowShop) (before after : Work) : Type 0 where
+  pub limit : after.limit ≡ before.limit
+  pub no_longer : after.makespan ≤ before.makespan
+  pub fewer : after.left ≤ before.left
+  pub kept : (order : List ℕ) → IsDone shop before order → IsDone shop after order
+  pub parts : 1 ≤ after.left → after.parts.items ≡ before.parts.items
+
+-- the children of a node in a search: the wanted ones have a bound, and the others are done
+pub record AreChildren (shop : FlowShop) (ends : Ends) (forward : Bool) (bounds : List ℕ) (work : Work) : Type 0 where
+  pub every : shop.jobs ≤ length bounds
+  pub low : (job : ℕ) → job < shop.jobs → IsOpen ends.front.jobs ends.back.jobs job
+      → slice_index bounds job < goal_of work → IsChild shop ends forward job (slice_index bounds job)
+  pub done : (job : ℕ) → job < shop.jobs → IsOpen ends.front.jobs ends.back.jobs job
+      → goal_of work ≤ slice_index bounds job
+      → Every shop (IsDone shop work) (put_of forward ends job).front.jobs (put_of forward ends job).back.jobs
+  pub closed : (job : ℕ) → job < shop.jobs → slice_index bounds job < CLOSED
+      → IsOpen ends.front.jobs ends.back.jobs job

@@ -1,51 +1,116 @@
-use Rattle.std.proofs.Common.{◌≡◌, ℕ, ◌+◌, ◌-◌, ◌<◌, ◌∷◌, length, get_or, inl, inr, ap, sym, ◌∙◌, subst, arith}
-use Rattle.std.proofs.lemmas.Bool.{cases_lt}
+use Rattle.std.proofs.Common.{◌≡◌, ℕ, ◌+◌, ◌-◌, ◌<◌, [], ◌∷◌, ◌++◌, length, get_or, refl, ap, sym, ◌∙◌, subst, arith, All}
+use Rattle.std.proofs.lemmas.List.Elements.{All-push}
+use Rattle.pfs_exact.specs.declared.branch.Work.{Work}
 use Rattle.pfs_exact.specs.declared.ends.Ends.{Ends}
-use Rattle.pfs_exact.specs.Private.Nodes.{AreEnds, IsNode, IsOpen, NoneShorter, put_of, taken_of}
+use Rattle.pfs_exact.specs.declared.parts.Part.{Part}
 use Rattle.pfs_exact.specs.MostNodes.{most_nodes}
-use Rattle.pfs_exact.proofs.Bounds.{bounds_set}
-use Rattle.pfs_exact.proofs.Entered.{few_nodes, one_more}
-use Rattle.pfs_exact.proofs.Sides.{by_children, none_shorter-le, put_ends, put_length, taken_again}
+use Rattle.pfs_exact.specs.Parts.{IsPart}
+use Rattle.pfs_exact.specs.Private.Nodes.{AreEnds, Continues, Every, IsChild, IsDone, IsNode, IsOpen, IsSome, NoneShorter, goal_of, put_of, taken_of}
+use Rattle.pfs_exact.proofs.Entered.{few_nodes, none_entered, one_more}
+use Rattle.pfs_exact.proofs.Searching.{below_less, children_first, children_more, continues_at, continues_on, goal_less, left_continues, left_done, on_ok}
+use Rattle.pfs_exact.proofs.Sides.{every_children, put_ends, put_length, put_some, taken_again}
 use Rattle.pfs_exact.proofs.branch.+branch.Goals as goal
 
-pub returns-then-number-work-clause-low : goal.returns-then-number-work-clause-low
-returns-then-number-work-clause-low t c =
-    let ends = c.args.work.now.ends in
-    let forward = c.children_of-forward.result in
-    by_children c.args.instance.now.shop ends forward c.each.work.makespan (omega arith)
-    (λ job small outside.
-    let least = c.least_of-job.ensures.least job (omega arith) in
-    none_shorter-le c.args.instance.now.shop (put_of forward ends job).front.jobs (put_of forward ends job).back.jobs
-    (get_or c.each.room.bounds job 0) c.each.work.makespan (omega arith)
-    (c.each.invariant.bounds.low job small outside))
+pub returns-then-work-eq0-clause-work : goal.returns-then-work-eq0-clause-work
+returns-then-work-eq0-clause-work t c =
+    let shop = c.args.instance.now.shop in
+    let work = c.args.work.now in
+    let is = c.requires.work in
+    let part : Part = record { front = work.ends.front; back = work.ends.back; bound = c.args.bound } in
+    let one : IsPart shop part = record {
+      front = is.ends.front;
+      back = is.ends.back;
+      apart = is.ends.sequence;
+      low = c.requires.bound;
+    } in
+    on_ok c.leave.result
+    (λ more. record {
+      ends = is.ends;
+      size = is.size;
+      room = is.room;
+      full = is.full;
+      exact = is.exact;
+      floor = is.floor;
+      table = is.table;
+      parts = subst (All (IsPart shop)) (sym more) (All-push (IsPart shop) work.parts.items part is.parts one);
+    }) c.leave.ensures
 
-pub returns-then-work-eq0-clause-low : goal.returns-then-work-eq0-clause-low
-returns-then-work-eq0-clause-low t c =
-    let ends = c.args.work.now.ends in
-    let forward = c.children_of-forward.result in
-    by_children c.args.instance.now.shop ends forward (get_or c.each.room.bounds c.least_of-job.result 0) (omega arith)
-    (λ job small outside.
-    let least = c.least_of-job.ensures.least job (omega arith) in
-    none_shorter-le c.args.instance.now.shop (put_of forward ends job).front.jobs (put_of forward ends job).back.jobs
-    (get_or c.each.room.bounds job 0) (get_or c.each.room.bounds c.least_of-job.result 0) (omega arith)
-    (c.each.invariant.bounds.low job small outside))
+pub returns-then-work-eq0-clause-continues : goal.returns-then-work-eq0-clause-continues
+returns-then-work-eq0-clause-continues t c =
+    let work = c.args.work.now in
+    let part : Part = record { front = work.ends.front; back = work.ends.back; bound = c.args.bound } in
+    let after : Work = record work { parts = c.leave.new.parts } in
+    on_ok c.leave.result (λ more. left_continues c.args.instance.now.shop work after part more refl refl refl (omega arith))
+    c.leave.ensures
 
-pub returns-then-number-work-clause-few : goal.returns-then-number-work-clause-few
-returns-then-number-work-clause-few t c =
+pub returns-then-work-eq0-clause-done : goal.returns-then-work-eq0-clause-done
+returns-then-work-eq0-clause-done t c =
+    let work = c.args.work.now in
+    let part : Part = record { front = work.ends.front; back = work.ends.back; bound = c.args.bound } in
+    let after : Work = record work { parts = c.leave.new.parts } in
+    on_ok c.leave.result (λ more. left_done c.args.instance.now.shop work after part more) c.leave.ensures
+
+pub each-init : goal.each-init
+each-init t c =
+    let shop = c.args.instance.now.shop in
+    let work = c.args.work.now in
+    let is = c.requires.work in
+    let first : Work = record work { table = c.children_of-forward.new.table; left = work.left - 1 } in
+    record {
+      work = record {
+        ends = is.ends;
+        size = is.size;
+        room = is.room;
+        full = is.full;
+        exact = is.exact;
+        floor = is.floor;
+        table = c.children_of-forward.ensures.table;
+        parts = is.parts;
+      };
+      ends = refl;
+      continues = record {
+        limit = refl;
+        no_longer = omega arith;
+        fewer = omega arith;
+        kept = λ order done. done;
+        parts = λ some. refl;
+      };
+      floor = refl;
+      left = omega arith;
+      children = children_first shop work.ends c.children_of-forward.result c.children_of-forward.new.room.bounds first
+          c.children_of-forward.ensures.bounds;
+      entered = (
+        [],
+        none_entered shop.jobs (shop.jobs - (length work.ends.front.jobs + length work.ends.back.jobs))
+            (work.ends.front.jobs ++ work.ends.back.jobs) c.children_of-forward.new.room.bounds (goal_of first) work.left
+            first.left (omega arith) is.ends.sequence,
+      );
+    }
+
+pub returns-then-number-goal-clause-few : goal.returns-then-number-goal-clause-few
+returns-then-number-goal-clause-few t c =
     let ends = c.args.work.now.ends in
     let (entered, are) = c.each.invariant.entered in
     few_nodes c.args.instance.now.shop.jobs ends.front.jobs ends.back.jobs c.each.room.bounds entered
-    c.each.work.makespan c.args.work.now.left c.each.work.left are
+    (goal_of c.each.work) c.args.work.now.left c.each.work.left are
 
-pub returns-then-work-eq0-clause-few : goal.returns-then-work-eq0-clause-few
-returns-then-work-eq0-clause-few t c =
-    let ends = c.args.work.now.ends in
-    let (entered, are) = c.each.invariant.entered in
-    few_nodes c.args.instance.now.shop.jobs ends.front.jobs ends.back.jobs c.each.room.bounds entered
-    c.each.work.makespan c.args.work.now.left c.each.work.left are
+pub returns-then-number-goal-clause-done : goal.returns-then-number-goal-clause-done
+returns-then-number-goal-clause-done t c =
+    let shop = c.args.instance.now.shop in
+    every_children shop (IsDone shop c.each.work) c.args.work.now.ends c.children_of-forward.result (omega arith)
+    (λ job small outside.
+    let least = c.least_of-job.ensures.least job (omega arith) in
+    c.each.invariant.children.done job small outside (omega arith))
 
-pub branch-room-requires : goal.branch-room-requires
-branch-room-requires t c =
+pub put-requires-clause-absent : goal.put-requires-clause-absent
+put-requires-clause-absent t c =
+    let invariant = c.each.invariant in
+    let job = c.least_of-job.result in
+    subst (λ (e : Ends). IsOpen e.front.jobs e.back.jobs job) (sym invariant.ends)
+    (invariant.children.closed job (omega arith) (omega arith))
+
+pub branch-alloc-requires : goal.branch-alloc-requires
+branch-alloc-requires t c =
     let shop = c.args.instance.now.shop in
     let job = c.least_of-job.result in
     let forward = c.children_of-forward.result in
@@ -53,8 +118,8 @@ branch-room-requires t c =
     let here = c.each.work.ends in
     let put = sym c.put.ensures in
     let inside : job < shop.jobs = omega arith in
-    let outside = subst (λ (e : Ends). IsOpen e.front.jobs e.back.jobs job) (sym invariant.ends)
-    (invariant.bounds.closed job inside (omega arith)) in
+    let alone = invariant.children.closed job inside (omega arith) in
+    let outside = subst (λ (e : Ends). IsOpen e.front.jobs e.back.jobs job) (sym invariant.ends) alone in
     let counts : Ends → ℕ = λ e. length e.front.jobs + length e.back.jobs in
     let more = ap counts c.put.ensures in
     let one = put_length forward here job in
@@ -73,9 +138,13 @@ branch-room-requires t c =
               full = invariant.work.full;
               exact = invariant.work.exact;
               floor = invariant.work.floor;
+              table = invariant.work.table;
+              parts = invariant.work.parts;
             },
             (
-              omega arith,
+              subst (λ (e : Ends). NoneShorter shop e.front.jobs e.back.jobs (get_or c.each.room.bounds job 0)) put
+                  (subst (λ (e : Ends). IsChild shop e forward job (get_or c.each.room.bounds job 0)) (sym invariant.ends)
+                  (invariant.children.low job inside alone (omega arith))),
               (
                 omega arith,
                 subst (λ (e : Ends). IsNode shop e.front.jobs e.back.jobs c.child.new.next) put
@@ -89,6 +158,23 @@ branch-room-requires t c =
       ),
     )
 
+pub take-requires : goal.take-requires
+take-requires t c =
+    let forward = c.children_of-forward.result in
+    subst (IsSome forward) (sym (c.in_ok-branch.ensures.ends ∙ c.put.ensures))
+    (put_some forward c.each.work.ends c.least_of-job.result)
+
+pub each-smaller : goal.each-smaller
+each-smaller t c =
+    let shop = c.args.instance.now.shop in
+    let job = c.least_of-job.result in
+    let less = c.in_ok-branch.ensures.continues.no_longer in
+    let same = c.in_ok-branch.ensures.continues.limit in
+    let number = c.branch-alloc.new.work.makespan in
+    let better = goal_of c.branch-alloc.new.work in
+    below_less c.each.room.bounds (goal_of c.each.work) better job number shop.jobs (omega arith) (omega arith)
+    (omega arith) (omega (arith, c.each.invariant.children.every)) (omega arith)
+
 pub each-preserved : goal.each-preserved
 each-preserved t c =
     let shop = c.args.instance.now.shop in
@@ -96,10 +182,16 @@ each-preserved t c =
     let job = c.least_of-job.result in
     let forward = c.children_of-forward.result in
     let invariant = c.each.invariant in
-    let searched = c.branch-room.ensures in
+    let searched = c.in_ok-branch.ensures in
     let inside : job < shop.jobs = omega arith in
+    let outside = invariant.children.closed job inside (omega arith) in
     let back_again : c.take.new.ends ≡ c.each.work.ends =
     c.take.ensures ∙ ap (taken_of forward) (searched.ends ∙ c.put.ensures) ∙ taken_again forward c.each.work.ends job in
+    let after : Work = record c.branch-alloc.new.work { ends = c.take.new.ends } in
+    let goes : Continues shop c.each.work after =
+    continues_at shop c.each.work after c.put.new.ends c.branch-alloc.new.work.ends searched.continues in
+    let better = goal_less shop c.each.work after goes in
+    let is = c.put.ensures ∙ ap (λ (e : Ends). put_of forward e job) invariant.ends in
     record {
       work = record {
         ends = subst (AreEnds shop.jobs) (sym back_again) invariant.work.ends;
@@ -108,31 +200,27 @@ each-preserved t c =
         full = searched.work.full;
         exact = searched.work.exact;
         floor = searched.work.floor;
+        table = searched.work.table;
+        parts = searched.work.parts;
       };
       ends = back_again ∙ invariant.ends;
-      no_longer = let less = searched.no_longer in let before = invariant.no_longer in omega arith;
-      left = let less = searched.left in let before = invariant.left in omega arith;
-      bounds = bounds_set shop ends forward shop.jobs shop.jobs job c.branch-room.result c.each.room.bounds inside
-          (λ k small other. small)
-          (λ outside. subst (λ (e : Ends). NoneShorter shop e.front.jobs e.back.jobs c.branch-room.result)
-          (c.put.ensures ∙ ap (λ (e : Ends). put_of forward e job) invariant.ends) searched.low)
-          (λ less. invariant.bounds.closed job inside (omega arith)) invariant.bounds;
+      continues = continues_on shop c.args.work.now c.each.work after invariant.continues goes;
+      floor = searched.floor ∙ invariant.floor;
+      left = let fewer = searched.continues.fewer in let less = invariant.left in omega arith;
+      children = children_more shop ends forward c.each.room.bounds c.each.work after job after.makespan inside outside goes
+          (omega arith) (subst (λ (e : Ends). Every shop (IsDone shop after) e.front.jobs e.back.jobs) is searched.done)
+          invariant.children;
       entered =
           let (entered, are) = invariant.entered in
           let many = shop.jobs - (length ends.front.jobs + length ends.back.jobs) in
           let nodes : Ends → ℕ = λ e. most_nodes (shop.jobs - (length e.front.jobs + length e.back.jobs)) in
-          let put = ap nodes (c.put.ensures ∙ ap (λ (e : Ends). put_of forward e job) invariant.ends) in
+          let put = ap nodes is in
           let one = put_length forward ends job in
           let less : nodes (put_of forward ends job) ≡ most_nodes (many - 1) = ap most_nodes (omega arith) in
           let few = searched.few in (
             job ∷ entered,
-            one_more shop.jobs many ends.front.jobs ends.back.jobs c.each.room.bounds entered c.each.work.makespan
-                c.args.work.now.left c.each.work.left job are c.branch-room.new.work.makespan
-                c.branch-room.new.work.left c.branch-room.result inside (omega (arith, invariant.bounds.every))
-                (omega arith) (invariant.bounds.closed job inside (omega arith)) (omega arith) searched.no_longer
-                (λ some. elim (cases_lt c.branch-room.result c.branch-room.new.work.makespan) [
-                  | inl below ↦ let none = searched.ended below in absurd (omega arith)
-                  | inr above ↦ above
-                ]) searched.left (omega arith),
+            one_more shop.jobs many ends.front.jobs ends.back.jobs c.each.room.bounds entered (goal_of c.each.work)
+                c.args.work.now.left c.each.work.left job are (goal_of after) after.left after.makespan inside
+                (omega (arith, invariant.children.every)) outside (omega arith) better (omega arith) (omega arith),
           );
     }

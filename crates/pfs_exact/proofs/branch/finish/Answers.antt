@@ -18,4 +18,6 @@ returns-then-span-work-clause-work c =
           ∙ ends_all shop.jobs ends.front.jobs ends.back.jobs is.ends.sequence c.requires.all;
       exact = c.span_of-span.ensures ∙ sym (ap (λ (s : Sequence). makespan shop s.jobs) copied);
       floor = is.floor;
+      table = is.table;
+      parts = is.parts;
     }

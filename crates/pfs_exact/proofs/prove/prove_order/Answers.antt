@@ -1,21 +1,34 @@
-use Rattle.std.proofs.Common.{subst, arith}
-use Rattle.pfs_exact.specs.declared.ends.Ends.{Ends}
-use Rattle.pfs_exact.specs.Private.Nodes.{NoneShorter}
-use Rattle.pfs_exact.proofs.Sides.{from_none}
+use Rattle.std.proofs.Common.{inl, inr, [], arith, sym, ◌∙◌, subst, All}
+use Rattle.std.proofs.lemmas.List.{append-nil}
+use Rattle.std.proofs.lemmas.List.Elements.{All-nil, All-cons}
+use Rattle.pfs_order.proofs.Published.Sequences.{IsSequence-nil}
+use Rattle.pfs_exact.specs.declared.parts.Part.{Part}
+use Rattle.pfs_exact.specs.Parts.{IsInSome, IsPart}
 use Rattle.pfs_exact.proofs.prove.prove_order.Goals as goal
-use Rattle.pfs_exact.proofs.prove.prove_order.Goals.{then-low-work+then-nodes-gt0+in_ok-rooms, else-low-work}
+
+pub prove_parts-requires-clause-parts : goal.prove_parts-requires-clause-parts
+prove_parts-requires-clause-parts c =
+    let shop = c.args.instance.now.shop in
+    let part : Part = record {
+      front = record { size = c.jobs.result; jobs = [] };
+      back = record { size = c.jobs.result; jobs = [] };
+      bound = 0;
+    } in
+    let is : IsPart shop part = record {
+      front = c.jobs.ensures.value;
+      back = c.jobs.ensures.value;
+      apart = IsSequence-nil shop.jobs;
+      low = λ middle full. omega arith;
+    } in
+    subst (All (IsPart shop)) (sym (c.deref.ensures.value ∙ c.in_ok-parts.ensures))
+    (All-cons (IsPart shop) part [] is (All-nil (IsPart shop)))
 
 pub returns-clause-low : goal.returns-clause-low
 returns-clause-low c = λ order sequence full.
-    let shop = c.args.instance.now.shop in
-    let floor = c.in-Ok.ensures.work.floor order sequence full in
-    elim c.if-low-work.branch [
-      | then-low-work+then-nodes-gt0+in_ok-rooms w ↦
-          let is = w.low-is in
-          let most = w.max-low.ensures in
-          let number = w.branch-instance.result in
-          let low = from_none shop number (subst (λ (e : Ends). NoneShorter shop e.front.jobs e.back.jobs number)
-          c.in-Ok.ensures.ends w.branch-instance.ensures.low) order sequence full in
-          omega arith
-      | else-low-work w ↦ let is = w.low-is in omega arith
+    let all = c.deref.ensures.value ∙ c.in_ok-parts.ensures in
+    let among : IsInSome order c.deref.result.now =
+    subst (IsInSome order) (sym all) (inl (order, sym (append-nil order))) in
+    elim (c.in_ok-searched.ensures.low order sequence full among) [
+      | inl long ↦ long
+      | inr none ↦ absurd none
     ]
