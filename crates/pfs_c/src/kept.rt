@@ -11,7 +11,7 @@ ghost use Rattle.pfs_iterate.specs.Iterated.{movable};
 ghost use Rattle.pfs_iterate.specs.Rounds.{CanIterate, IsIterated};
 ghost use Rattle.pfs_search.specs.Search.{IsSearchOf};
 ghost use Rattle.pfs_search.specs.Solution.{IsImproved, IsNeh};
-ghost use Rattle.pfs_search.specs.Greedy.{pass_over, passes_over};
+ghost use Rattle.pfs_search.specs.Greedy.{passes_over};
 ghost use Rattle.pfs_c.specs.Inserting.{AreInsertions, insertions_fault};
 ghost use Rattle.pfs_c.specs.Iterating.{or_ties_fault};
 ghost use Rattle.pfs_c.specs.Many.{AreMakespans, makespans_fault};
@@ -26,8 +26,7 @@ use crate::rows::span_of;
 use crate::searching::RoundsOptions;
 use pfs_base::{Bench, Instance, MOST_JOBS, MOST_PASSES, MOST_ROUNDS};
 use pfs_batch::Batch;
-use pfs_iterate::{Iterated, Makespans, Options, TIES_IDLE};
-use pfs_order::Seq;
+use pfs_iterate::{Iterated, Makespans, Options, TIES_FIRST, TIES_IDLE};
 use pfs_search::{Rounds, Search};
 use std::alloc::Global;
 use std::marker::Model;
@@ -39,7 +38,6 @@ pub(crate) struct Kept {
     search: Search,
     // Whether the makespan that the search keeps is that of its order.
     is_span_known: bool,
-    sequence: Seq,
     iterated: Iterated,
     // None if a time is above 65,535.
     batch: Option<Batch>,
@@ -61,7 +59,6 @@ impl Model for Kept {
       within : IsWithin limits a.instance.shop;
       search : IsSearchOf a.instance.shop a.search;
       span : IsTrue a.is_span_known → a.search.kept.span ≡ makespan a.instance.shop a.search.kept.order;
-      size : a.sequence.size ≡ a.instance.shop.jobs;
       iterated : IsIteratedFor a.instance.shop a.iterated;
       batch : IfSome a.batch (λ batch. batch ≡ a.instance.shop);
     } };
@@ -76,9 +73,6 @@ impl Kept {
         let Ok(search) = Search::new(alloc, &instance) else {
             return Err(CallFault::Memory);
         };
-        let Ok(sequence) = Seq::new(alloc, instance.jobs()) else {
-            return Err(CallFault::Memory);
-        };
         let Ok(iterated) = Iterated::new(alloc, &instance) else {
             return Err(CallFault::Memory);
         };
@@ -89,7 +83,6 @@ impl Kept {
             instance,
             search,
             is_span_known: false,
-            sequence,
             iterated,
             batch,
         })
@@ -338,72 +331,21 @@ impl Kept {
         Ok(())
     }
 
-    /// Makes passes over a list of jobs from the first `count` of `order`, which it overwrites. Returns the makespan.
-    pub(crate) fn visit(
-        &mut self,
-        list: &[u32],
-        passes: u32,
-        order: &mut [u32],
-        count: usize,
-    ) -> u64
-        requires count { count ≤ length order.old }
-        requires sequence { IsSequence self.old.jobs (take count order.old) }
-        requires small { All (λ job. job < self.old.jobs) list.now }
-        requires long { length order.old ≡ length (passes_over self.old list.now passes (take count order.old)) }
-        ensures order { order.new ≡ passes_over self.old list.now passes (take count order.old) }
+    /// Makes passes over a list of jobs of a sequence, which it overwrites. Returns the makespan.
+    pub(crate) fn visit(&mut self, list: &[u32], passes: u32, order: &mut [u32]) -> u64
+        requires sequence { IsSequence self.old.jobs order.old }
+        requires list { IsSequence self.old.jobs list.now }
+        requires members { All (λ job. Contains order.old job) list.now }
+        ensures order { order.new ≡ passes_over self.old list.now passes order.old }
         ensures span { result ≡ makespan self.old order.new }
         ensures shop { self.new ≡ self.old }
     {
-        let seq = &mut self.sequence;
-        seq.set(&order[..count]);
-        make_visits(&self.instance, &mut self.search, seq, list, passes);
-        // Called for its contract, which says that the jobs of a sequence are distinct.
-        let _size = seq.size();
-        copy_sequence(seq, order);
-        span_of(&self.instance, order)
-    }
-}
-
-// Makes passes over a list of jobs.
-fn make_visits(instance: &Instance, search: &mut Search, seq: &mut Seq, list: &[u32], passes: u32)
-    requires search { IsSearchOf instance.now.shop search.old }
-    requires size { seq.old.size ≡ instance.now.shop.jobs }
-    requires small { All (λ job. job < instance.now.shop.jobs) list.now }
-    ensures jobs { seq.new ≡ record seq.old { jobs = passes_over instance.now.shop list.now passes seq.old.jobs } }
-    ensures search { IsSearchOf instance.now.shop search.new }
-    ensures kept { search.new.kept ≡ search.old.kept }
-{
-    for _pass in 0..passes {
-        visit_once(instance, search, seq, list);
-    }
-}
-
-// One pass: each job leaves its place, if it has one, for its first best one.
-fn visit_once(instance: &Instance, search: &mut Search, seq: &mut Seq, list: &[u32])
-    requires search { IsSearchOf instance.now.shop search.old }
-    requires size { seq.old.size ≡ instance.now.shop.jobs }
-    requires small { All (λ job. job < instance.now.shop.jobs) list.now }
-    ensures jobs { seq.new ≡ record seq.old { jobs = pass_over instance.now.shop list.now seq.old.jobs } }
-    ensures search { IsSearchOf instance.now.shop search.new }
-    ensures kept { search.new.kept ≡ search.old.kept }
-{
-    for job in list {
-        let job = *job as usize;
-        take_out(seq, job);
-        let best = search.best(&mut instance.metered(), seq.as_slice(), job, &mut []);
-        seq.insert_at(best.place, job);
-    }
-}
-
-// Removes a job from a sequence that may contain it.
-fn take_out(seq: &mut Seq, job: usize)
-    ensures jobs { seq.new ≡ record seq.old { jobs = filter (λ other. not (nat_eq other job)) seq.old.jobs } }
-    ensures absent { Contains seq.new.jobs job → ⊥ }
-{
-    // Called for its contract, which says that the jobs of a sequence are distinct.
-    let _size = seq.size();
-    if seq.has(job) {
-        let place = seq.place_of(job);
-        seq.remove_at(place);
+        pfs_iterate::laws::first();
+        let count = order.len();
+        let mut span = self.build(TIES_FIRST, &[], list, 0, order, count);
+        for _pass in 0..passes {
+            span = self.build(TIES_FIRST, &[], list, 1, order, count);
+        }
+        span
     }
 }

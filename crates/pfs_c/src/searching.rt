@@ -14,6 +14,7 @@ use crate::handle::Prepared;
 use crate::kept::Kept;
 use crate::numbers::{CallFault, PFS_OK, number_of};
 use pfs_base::{MOST_JOBS, MOST_PASSES};
+use pfs_iterate::TIES_FIRST;
 use std::alloc::Global;
 
 /// Computes the order of NEH (Nawaz, Enscore and Ham 1983) by heads and tails (Taillard 1990), its makespan, and the
@@ -136,7 +137,8 @@ fn construct_in(
     validate_jobs(jobs, sequence)?;
     validate_more(jobs, sequence, more)?;
     order[..sequence.len()].copy_from_slice(sequence);
-    *span = kept.visit(more, 1, order, sequence.len());
+    pfs_iterate::laws::first();
+    *span = kept.build(TIES_FIRST, more, &[], 0, order, sequence.len());
     Ok(())
 }
 
@@ -185,8 +187,7 @@ fn local_search_in(
     validate_jobs(jobs, list)?;
     validate_members(sequence, list)?;
     validate(passes <= MOST_PASSES, CallFault::Passes)?;
-    let count = sequence.len();
-    *span = kept.visit(list, passes, sequence, count);
+    *span = kept.visit(list, passes, sequence);
     Ok(())
 }
 
