@@ -307,7 +307,7 @@ def searches(random: Random, shop: Instance) -> list[Call]:
     first = random.choice([0, 0, 1, 7, second_program.MOST_JOBS])
     count, length = random.choice([0, 1, 2, 8, 9, 33]), random.randint(0, shop.jobs)
     sequences = [job for _ in range(count) for job in random.sample(jobs, length)]
-    ties = Number(random.randint(0, 1), 32)
+    ties = Number(random.randint(0, second_library.MOST_TIES), 32)
     return [
         ("pfs_sizes", [*given(shop), out64(), out64()]),
         ("pfs_faulty_job", [*given(shop), *list32(some), out64()]),
@@ -322,7 +322,7 @@ def searches(random: Random, shop: Instance) -> list[Call]:
         ("pfs_prove", [*given(shop), *list32(jobs), Number(0), out64(), out64(), out64()]),
         ("pfs_iterate", [*given(shop), Memory(ITERATE_OPTIONS.pack(
             random.choice(fuzz.SEEDS[:-1]), random.choice([1, len(moving)]), held, first, random.randint(0, 4),
-            random.choice([0, 1, 2, 100]), random.choice([0, 1, 2, 100]), random.randint(0, 1))),
+            random.choice([0, 1, 2, 100]), random.choice([0, 1, 2, 100]), ties.value)),
                          *list32([random.getrandbits(32) for _ in range(random.choice([0, 1, 2, 9]))]), *text(stay),
                          *list32(jobs), out64(), *list32(jobs[:held] + jobs[held:][::-1]), out64()]),
         ("pfs_insert", [*given(shop), *list32(some), Number(jobs[-1], 32), out64(), out64()]),
@@ -334,8 +334,8 @@ def searches(random: Random, shop: Instance) -> list[Call]:
                            out64()]),
         ("pfs_local_search", [*given(shop), *list32(random.sample(jobs, length)), Number(random.randint(0, 2), 32),
                               *list32(jobs), out64()]),
-        ("pfs_construct_ties", [*given(shop), ties, *list32(some), *list32(jobs[len(some):]),
-                                *list32([PATTERN] * shop.jobs), out64()]),
+        ("pfs_construct_ties", [*given(shop), ties, *list32(jobs[len(some):]),
+                                *list32(some + [PATTERN] * (shop.jobs - len(some))), out64()]),
         ("pfs_local_search_ties", [*given(shop), ties, *list32(random.sample(jobs, length)),
                                    Number(random.choice([0, 1, 2, 100]), 32), *list32(jobs), out64()]),
         ("pfs_random", [Number(random.choice(fuzz.SEEDS[:-1])), Number(random.randint(0, 9)),

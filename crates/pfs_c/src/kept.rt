@@ -22,14 +22,22 @@ ghost use Rattle.pfs_c.specs.Private.Outcomes.{Validates};
 use crate::given::{copy_sequence, validate, validate_insertion, validate_jobs};
 use crate::many::{fill_makespans, validate_many};
 use crate::numbers::CallFault;
+use crate::iterating::IterateOptions;
 use crate::rows::span_of;
 use crate::searching::RoundsOptions;
 use pfs_base::{Bench, Instance, MOST_JOBS, MOST_PASSES, MOST_ROUNDS};
 use pfs_batch::Batch;
-use pfs_iterate::{Iterated, Makespans, Options, TIES_FIRST, TIES_IDLE};
+use pfs_insert::Placed;
+use pfs_iterate::{Iterated, MOST_TIES, Makespans, TIES_FIRST};
 use pfs_search::{Rounds, Search};
 use std::alloc::Global;
 use std::marker::Model;
+
+/// The makespan of the order that a search has found, and the number of cells that it takes.
+pub(crate) struct Searched {
+    pub(crate) span: u64,
+    pub(crate) cells: u64,
+}
 
 /// A prepared instance.
 #[derive(Drop)]
@@ -104,36 +112,34 @@ impl Kept {
         self.instance.jobs()
     }
 
-    /// Writes NEH's order and the number of cells, and returns the order's makespan.
-    pub(crate) fn neh(&mut self, alloc: Global, order: &mut [u32], cells: &mut u64) -> u64
+    /// Writes NEH's order.
+    pub(crate) fn neh(&mut self, alloc: Global, order: &mut [u32]) -> Searched
         requires { length order.old ≡ self.old.jobs }
-        ensures found { IsNeh self.old order.new result cells.new }
+        ensures found { IsNeh self.old order.new result.span result.cells }
         ensures shop { self.new ≡ self.old }
     {
         self.search.cells = 0;
         let bench = self.search.neh(alloc, self.instance.metered());
-        *cells = bench.cells();
         self.is_span_known = true;
         copy_sequence(self.search.kept.order.seq(), order);
-        bench.reveal(self.search.kept.span)
+        Searched {
+            span: bench.reveal(self.search.kept.span),
+            cells: bench.cells(),
+        }
     }
 
-    /// Makes rounds from an order, which it overwrites. Writes the makespan of the result and the number of cells.
+    /// Makes rounds from an order, which it overwrites.
     pub(crate) fn rounds(
         &mut self,
         alloc: Global,
         options: &RoundsOptions,
         order: &mut [u32],
-        span: &mut u64,
-        cells: &mut u64,
-    ) -> Result<(), CallFault>
+    ) -> Result<Searched, CallFault>
         ensures validated { Validates result (rounds_fault self.old order.old options.now) }
-        ensures found { IfOk result (λ _. IsImproved self.old order.old options.now.first options.now.count
-            options.now.take options.now.passes options.now.seed order.new span.new cells.new) }
+        ensures found { IfOk result (λ found. IsImproved self.old order.old options.now.first options.now.count
+            options.now.take options.now.passes options.now.seed order.new found.span found.cells) }
         ensures shop { self.new ≡ self.old }
-        ensures kept_order { IfErr result (λ _. order.new ≡ order.old) }
-        ensures kept_span { IfErr result (λ _. span.new ≡ span.old) }
-        ensures kept_cells { IfErr result (λ _. cells.new ≡ cells.old) }
+        ensures kept { IfErr result (λ _. order.new ≡ order.old) }
     {
         let jobs = self.instance.jobs();
         validate(order.len() == jobs, CallFault::Length)?;
@@ -157,40 +163,40 @@ impl Kept {
         let bench = self
             .search
             .rounds(alloc, self.instance.metered(), options.first, rounds);
-        *cells = bench.cells();
         self.is_span_known = true;
         copy_sequence(self.search.kept.order.seq(), order);
-        *span = bench.reveal(self.search.kept.span);
-        Ok(())
+        Ok(Searched {
+            span: bench.reveal(self.search.kept.span),
+            cells: bench.cells(),
+        })
     }
 
     /// Makes rounds that also accept longer orders from two orders, which it overwrites, and returns their makespans.
     pub(crate) fn iterate(
         &mut self,
-        options: &Options,
-        accept: &[u32],
-        stay: &[u8],
+        options: &IterateOptions,
         current: &mut [u32],
         best: &mut [u32],
     ) -> Makespans
-        requires options { CanIterate self.old options.now }
+        requires options { CanIterate self.old options.now.rounds }
         requires current_all { length current.old ≡ self.old.jobs }
         requires current { IsSequence self.old.jobs current.old }
         requires best_all { length best.old ≡ self.old.jobs }
         requires best { IsSequence self.old.jobs best.old }
-        requires front { take options.now.held best.old ≡ take options.now.held current.old }
-        requires free { options.now.take ≤ length (movable options.now.held stay.now current.old) }
-        ensures done { IsIterated self.old options.now accept.now stay.now current.old best.old
-            current.new result.current best.new result.best }
+        requires front { take options.now.rounds.held best.old ≡ take options.now.rounds.held current.old }
+        requires free { options.now.rounds.take
+            ≤ length (movable options.now.rounds.held options.now.stay.now current.old) }
+        ensures done { IsIterated self.old options.now.rounds options.now.accept.now options.now.stay.now
+            current.old best.old current.new result.current best.new result.best }
         ensures shop { self.new ≡ self.old }
     {
         self.is_span_known = false;
         self.iterated.rounds(
             &self.instance,
             &mut self.search,
-            options,
-            accept,
-            stay,
+            &options.rounds,
+            options.accept,
+            options.stay,
             current,
             best,
         )
@@ -208,56 +214,43 @@ impl Kept {
         }
     }
 
-    /// Writes the best place for a job in a sequence, and the makespan with the job there.
-    pub(crate) fn insert(
-        &mut self,
-        sequence: &[u32],
-        job: u32,
-        place: &mut usize,
-        span: &mut u64,
-    ) -> Result<(), CallFault>
+    /// Finds the best place for a job in a sequence, and the makespan with the job there.
+    pub(crate) fn insert(&mut self, sequence: &[u32], job: u32) -> Result<Placed<u64>, CallFault>
         ensures validated { Validates result (insertion_fault self.old sequence.now job) }
-        ensures best { IfOk result (λ _. IsBestPlace self.old sequence.now job place.new span.new) }
+        ensures best { IfOk result (λ best. IsBestPlace self.old sequence.now job best.place best.span) }
         ensures shop { self.new ≡ self.old }
-        ensures kept_place { IfErr result (λ _. place.new ≡ place.old) }
-        ensures kept_span { IfErr result (λ _. span.new ≡ span.old) }
     {
         validate_insertion(self.instance.jobs(), sequence, job)?;
         let mut bench = self.instance.metered();
         let best = self
             .search
             .best(&mut bench, sequence, job as usize, &mut []);
-        *place = best.place;
-        *span = bench.reveal(best.span);
-        Ok(())
+        Ok(Placed {
+            place: best.place,
+            span: bench.reveal(best.span),
+        })
     }
 
-    /// Writes the best place for a job in a sequence by a rule for equally good places, and the makespan with the job
+    /// Finds the best place for a job in a sequence by a rule for equally good places, and the makespan with the job
     /// there.
     pub(crate) fn choose(
         &mut self,
         ties: u32,
         sequence: &[u32],
         job: u32,
-        place: &mut usize,
-        span: &mut u64,
-    ) -> Result<(), CallFault>
+    ) -> Result<Placed<u64>, CallFault>
         ensures validated { Validates result (or_ties_fault (insertion_fault self.old sequence.now job) ties) }
-        ensures chosen { IfOk result (λ _. IsChosen self.old ties sequence.now job place.new span.new) }
+        ensures chosen { IfOk result (λ best. IsChosen self.old ties sequence.now job best.place best.span) }
         ensures shop { self.new ≡ self.old }
-        ensures kept_place { IfErr result (λ _. place.new ≡ place.old) }
-        ensures kept_span { IfErr result (λ _. span.new ≡ span.old) }
     {
         validate_insertion(self.instance.jobs(), sequence, job)?;
-        validate(ties <= TIES_IDLE, CallFault::Ties)?;
+        validate(ties <= MOST_TIES, CallFault::Ties)?;
         self.is_span_known = false;
         let job = job as usize;
-        let found = self
+        let (instance, search) = (&self.instance, &mut self.search);
+        Ok(self
             .iterated
-            .choose(&self.instance, &mut self.search, ties, sequence, job);
-        *place = found.place;
-        *span = found.span;
-        Ok(())
+            .choose(instance, search, ties, sequence, job))
     }
 
     /// Inserts more jobs into the first `count` of `order`, and makes passes over a list of jobs until one makes the

@@ -16,5 +16,5 @@ mod stay;
 mod work;
 
 pub use iterated::{Iterated, Makespans};
-pub use options::{Options, TIES_FIRST, TIES_IDLE};
+pub use options::{MOST_TIES, Options, TIES_FIRST, TIES_IDLE};
 pub use stay::count_movable;
