@@ -96,7 +96,8 @@ class Library:
             else:
                 given.append((ctypes.c_uint32 if argument.bits == 32 else ctypes.c_uint64)(argument.value))
         if name == "pfs_iterate":
-            given[4:9] = [with_lists(*buffers[1:4], *(int(argument.value) for argument in given[6:9:2]))]
+            lengths = [argument.value for argument in arguments[6:9] if isinstance(argument, Number)]
+            given[4:9] = [with_lists(buffers[1], buffers[2], buffers[3], *lengths)]
         number = self.on_instance(name, arguments[:4], given) if name in ON_SHOP else int(self.functions[name](*given))
         contents = [argument.content for argument in arguments if isinstance(argument, Memory)]
         return Answer(number, [buffer.raw[:len(content)] for buffer, content in zip(buffers, contents)])
