@@ -1,6 +1,7 @@
 -- Lemmas that the proofs of dependent crates may cite.
 pub mod BufferLemmas
 pub mod Ends
+pub mod HeadRows
 pub mod Heads
 pub mod Heaviest
 pub mod Lists
