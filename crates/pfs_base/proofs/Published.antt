@@ -5,6 +5,7 @@ pub mod HeadRows
 pub mod Heads
 pub mod Heaviest
 pub mod Lists
+pub mod Partly
 pub mod Printing
 pub mod SendsLemmas
 pub mod SendsOn

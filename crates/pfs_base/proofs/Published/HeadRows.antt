@@ -1,13 +1,12 @@
 -- Rows of heads: each from the row before, equal rows of sequences with the same front, and how great they are.
-use Rattle.std.proofs.Common.{◌≡◌, ℕ, zero, suc, ◌+◌, ◌-◌, ◌*◌, ◌<◌, ◌≤◌, max, List, ◌++◌, length, get_or, set, replicate, take}
-use Rattle.std.proofs.Common.{refl, sym, ap, ◌∙◌, inl, inr, add-one, arith, length-set}
-use Rattle.std.proofs.lemmas.Bool.{cases_eq}
-use Rattle.std.proofs.lemmas.List.{get_or-set_same, get_or-set_other, get_or-replicate, get_or-take, get_or_append_left}
+use Rattle.std.proofs.Common.{◌≡◌, ℕ, zero, suc, ◌+◌, ◌-◌, ◌*◌, ◌<◌, ◌≤◌, max, List, ◌++◌, length, get_or, replicate, take}
+use Rattle.std.proofs.Common.{refl, sym, ap, ◌∙◌, add-one, arith}
+use Rattle.std.proofs.lemmas.List.{get_or-replicate, get_or-take, get_or_append_left}
 use Rattle.std.proofs.lemmas.List.{length-replicate}
 use Rattle.pfs_base.specs.declared.bench.TheConstants.{SPAN_MAX}
 use Rattle.pfs_base.specs.declared.limits.TheConstants.{LONGEST_TIME}
 use Rattle.pfs_base.specs.FlowShop.{FlowShop, IsWithin, time_of}
-use Rattle.pfs_base.specs.Heads.{head_of, AreHeads, AreOf}
+use Rattle.pfs_base.specs.Heads.{head_of, AreHeads}
 use Rattle.pfs_base.specs.Limits.{limits}
 use Rattle.pfs_base.specs.Paths.{operation, makespan}
 use Rattle.pfs_base.proofs.Published.Heads.{head, head_le, head_step, heaviest_is, makespan_is, time_of-le}
@@ -108,43 +107,6 @@ module _ (shop : FlowShop) (within : IsWithin limits shop) (jobs : List ℕ) whe
         omega (arith, above_is, head_of-le row machine, few, sizes, lt),
         omega (arith, before_is, head_of_before-le next machine, few, next_is, sizes, lt),
       )
-
--- ---- a row that a loop over the machines changes
-
--- the numbers are the new ones before `machine`, and the old ones from it on
-pub record ArePartly (old new : ℕ → ℕ) (machines machine : ℕ) (numbers : List ℕ) : Type 0 where
-  pub every : machines ≤ length numbers
-  pub done : (k : ℕ) → k < machine → get_or numbers k 0 ≡ new k
-  pub to_do : (k : ℕ) → machine ≤ k → k < machines → get_or numbers k 0 ≡ old k
-
-module _ (old new : ℕ → ℕ) (machines : ℕ) where
-  pub partly_none : (numbers : List ℕ) → AreOf old machines numbers → ArePartly old new machines 0 numbers
-  partly_none numbers are = record {
-    every = are.every;
-    done = λ k h. absurd (omega arith);
-    to_do = λ k h small. are.values k small;
-  }
-
-  pub partly_more : (machine x : ℕ) (numbers : List ℕ) → machine < machines → ArePartly old new machines machine numbers
-      → x ≡ new machine → ArePartly old new machines (machine + 1) (set numbers machine x)
-  partly_more machine x numbers small are here =
-      let within : machine < length numbers = omega (arith, are.every) in
-      record {
-        every = omega (arith, length-set numbers machine x, are.every);
-        done = λ k below. elim (cases_eq k machine) [
-          | inl is ↦ rw is (get_or-set_same numbers machine x 0 within ∙ here)
-          | inr other ↦ get_or-set_other numbers machine k x 0 other ∙ are.done k (omega arith)
-        ];
-        to_do = λ k above inside.
-            get_or-set_other numbers machine k x 0 (omega arith) ∙ are.to_do k (omega arith) inside;
-      }
-
-  pub partly_all : (machine : ℕ) (numbers : List ℕ) → machines ≤ machine → ArePartly old new machines machine numbers
-      → AreOf new machines numbers
-  partly_all machine numbers all are = record {
-    every = are.every;
-    values = λ k lt. are.done k (omega arith);
-  }
 
 -- before the first job all heads are 0
 pub heads_none : (shop : FlowShop) (jobs : List ℕ) (count : ℕ) → shop.machines ≤ count
