@@ -23,8 +23,8 @@ use crate::given::{copy_sequence, validate, validate_insertion, validate_jobs};
 use crate::many::{fill_makespans, validate_many};
 use crate::numbers::CallFault;
 use crate::iterating::IterateOptions;
-use crate::rows::span_of;
 use crate::searching::RoundsOptions;
+use pfs_base::heads::span_of;
 use pfs_base::{Bench, Instance, MOST_JOBS, MOST_PASSES, MOST_ROUNDS};
 use pfs_batch::Batch;
 use pfs_insert::Placed;
@@ -34,6 +34,7 @@ use std::alloc::Global;
 use std::marker::Model;
 
 /// The makespan of the order that a search has found, and the number of cells that it takes.
+#[derive(Clone, Copy)]
 pub(crate) struct Searched {
     pub(crate) span: u64,
     pub(crate) cells: u64,

@@ -10,7 +10,7 @@ ghost use Rattle.pfs_c.specs.Private.Outcomes.{Validates};
 
 use crate::given::{validate_jobs, validate_product};
 use crate::numbers::CallFault;
-use crate::rows::span_of;
+use pfs_base::heads::span_of;
 use pfs_base::{Instance, MOST_JOBS};
 use pfs_batch::{Batch, WIDTH};
 

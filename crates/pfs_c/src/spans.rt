@@ -16,9 +16,10 @@ ghost use Rattle.pfs_c.specs.Private.Outcomes.{Rejects, Validates};
 use crate::given::{order_of, validate, validate_jobs, validate_product};
 use crate::handle::Prepared;
 use crate::numbers::{CallFault, PFS_OK, number_and_place, number_of};
-use crate::rows::{fill_rows, span_of};
+use crate::rows::{fill_heads, fill_tails};
 use pfs_audit::{TimeTable, bound, table};
 use pfs_base::Instance;
+use pfs_base::heads::span_of;
 use std::alloc::Global;
 
 /// Computes the makespan of a sequence of distinct jobs, which need not be all jobs. That of no jobs is 0.
@@ -242,7 +243,7 @@ fn heads_tails_in(
     validate_product(heads.len(), sequence.len(), machines)?;
     validate_product(tails.len(), sequence.len(), machines)?;
     validate_jobs(instance.jobs(), sequence)?;
-    fill_rows(instance, sequence, heads, false);
-    fill_rows(instance, sequence, tails, true);
+    fill_heads(instance, sequence, heads);
+    fill_tails(instance, sequence, tails);
     Ok(())
 }
