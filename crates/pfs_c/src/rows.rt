@@ -37,7 +37,7 @@ pub(crate) fn fill_tails(instance: &Instance, sequence: &[u32], table: &mut [u64
     }
 }
 
-// Adds the job at a place of a sequence to the tails of the jobs after it.
+// Adds the job at a place of a sequence to the tails of the jobs after it, as `add_head` adds one to heads.
 #[inline(always)]
 fn add_tail(instance: &Instance, sequence: &[u32], place: usize, tails: &mut [u64])
     requires sequence { IsSequence instance.now.shop.jobs sequence.now }
