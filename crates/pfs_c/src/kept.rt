@@ -34,6 +34,7 @@ use std::alloc::Global;
 use std::marker::Model;
 
 /// The makespan of the order that a search has found, and the number of cells that it takes.
+#[derive(Clone, Copy)]
 pub(crate) struct Searched {
     pub(crate) span: u64,
     pub(crate) cells: u64,
