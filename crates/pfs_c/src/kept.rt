@@ -204,6 +204,7 @@ impl Kept {
     }
 
     // The makespan of a sequence, which is known if the search has just found this sequence.
+    #[tactic(auto, using(crate::proofs::Jobs::few_jobs))]
     fn span_of(&self, sequence: &[u32]) -> u64
         requires { IsSequence self.now.jobs sequence.now }
         ensures { result ≡ makespan self.now sequence.now }

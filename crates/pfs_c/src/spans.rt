@@ -24,6 +24,7 @@ use std::alloc::Global;
 
 /// Computes the makespan of a sequence of distinct jobs, which need not be all jobs. That of no jobs is 0.
 #[unsafe(no_mangle)]
+#[tactic(auto, using(crate::proofs::Jobs::few_jobs))]
 pub extern "C" fn pfs_makespan(
     alloc: Global,
     instance: &mut Prepared,
