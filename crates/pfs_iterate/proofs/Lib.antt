@@ -2,6 +2,7 @@ mod Among
 mod Ends
 mod Fronts
 mod HeadRows
+mod Keeping
 mod Least
 mod Listing
 mod Passes

@@ -18,3 +18,4 @@ mod work;
 pub use iterated::{Iterated, Makespans};
 pub use options::{MOST_TIES, Options, TIES_FIRST, TIES_IDLE};
 pub use stay::count_movable;
+pub use work::Work;

@@ -6,7 +6,10 @@ use Rattle.rand_pcg.specs.Lcg.{Lcg, advance}
 use Rattle.rand_pcg.specs.Pcg.{multiplier_64, pcg32_of_seed}
 use Rattle.pfs_base.specs.FlowShop.{FlowShop}
 use Rattle.pfs_base.specs.Paths.{makespan}
+use Rattle.pfs_insert.specs.Insertion.{makespan_with}
 use Rattle.pfs_order.specs.Sequence.{IsSequence, Sequence}
+use Rattle.pfs_iterate.specs.Iterated.{chosen}
+use Rattle.pfs_iterate.specs.declared.options.Options.{Options}
 
 -- the generator of a seed after a number of rounds of `each` words
 abbrev pub generator : ℕ → ℕ → ℕ → Lcg
@@ -50,6 +53,13 @@ pub record IsBestFrom (value tie : ℕ → ℕ) (held count place : ℕ) : Type 
   pub least : (other : ℕ) → held ≤ other → other < count → value place ≤ value other
   pub tied : (other : ℕ) → held ≤ other → other < count → value other ≡ value place → tie place ≤ tie other
   pub first : (other : ℕ) → held ≤ other → other < place → value other ≡ value place → tie place < tie other
+
+-- the chosen place for a job in a sequence, and the makespan with the job there
+pub record IsPlaceFor (shop : FlowShop) (options : Options) (jobs : List ℕ) (job place span : ℕ) : Type 0 where
+  pub place_is : place ≡ chosen shop options jobs job
+  pub from : options.held ≤ place
+  pub within : place ≤ length jobs
+  pub spanned : span ≡ makespan_with shop jobs job place
 
 -- an order of all jobs, and its makespan
 pub record IsMeasured (shop : FlowShop) (order : List ℕ) (span : ℕ) : Type 0 where
