@@ -7,7 +7,7 @@ use Rattle.pfs_order.specs.Sequence.{IsSequence}
 use Rattle.pfs_iterate.specs.Private.Memory.{AreLists, IsWorkFor}
 use Rattle.pfs_iterate.specs.Iterated.{after_rounds, is_free}
 use Rattle.pfs_iterate.specs.declared.options.Options.{Options}
-use Rattle.pfs_iterate.specs.declared.options.TheConstants.{TIES_IDLE}
+use Rattle.pfs_iterate.specs.declared.options.TheConstants.{MOST_TIES}
 use Rattle.pfs_iterate.specs.declared.iterated.Iterated.{Iterated}
 
 -- the memory of a shop's searches and rounds, with room for the words of a round and for two orders
@@ -24,7 +24,7 @@ pub record CanIterate (shop : FlowShop) (options : Options) : Type 0 where
   pub some : 1 ≤ options.take
   pub few : options.held + options.take ≤ shop.jobs
   pub last : options.first + options.count ≤ MOST_ROUNDS
-  pub ties : options.ties ≤ TIES_IDLE
+  pub ties : options.ties ≤ MOST_TIES
 
 -- the jobs that stay, in their order
 abbrev pub staying : List ℕ → List ℕ → List ℕ
