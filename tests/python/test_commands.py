@@ -21,6 +21,8 @@ import pfs
 import pytest
 from pfs import _commands, _library, _rounds, _search, _state, _wording
 from pfs._cli import Misused, version
+from pfs.plan import plan
+from pfs.plan.plan import Limits
 from support import plainly
 from support.commands import ended, without_summary
 from support.plainly import environment
@@ -308,13 +310,17 @@ def test_the_time_that_is_left(monkeypatch: pytest.MonkeyPatch, limit: float | N
 
 
 def test_the_progress_of_a_proof(monkeypatch: pytest.MonkeyPatch) -> None:
-    lines, asked = list[str](), list[Any]()
-    search, call = _search.Search(pfs.taillard(1), None, 0, None, 0, 0), getattr(_commands, "proved_for")
-    monkeypatch.setattr(_commands, "proved", lambda *given: asked.append((*given[:3], given[3]())))
-    monkeypatch.setattr(_commands, "time", types.SimpleNamespace(monotonic=iter([7.0, 7.0, 9.0]).__next__))
+    lines, search = list[str](), _search.Search(pfs.taillard(1), None, 0, None, 0, 0)
+
+    def run(_: Any, limits: Limits, *, stop: Any, watch: Callable[[float], bool]) -> Any:
+        return watch(limits.prove), stop.is_set(), search.last
+
     monkeypatch.setattr(_commands.ProgressLine, "show", lambda _, line: lines.append(line))
-    assert call(5, search, "best", [2]) == (None, None) and asked == [(search.shop, "best", 5, True)]
-    assert lines == ["proving that no order is shorter, 0:00:03 left", ""]
+    for caught in (list[int](), [2]):
+        got: Any = _commands.searched(run, search, Limits(None, None, 2.5), caught)
+        assert got == ((bool(caught), bool(caught), None), None), "the search begins before it is asked for"
+        assert lines == ["proving that no order is shorter, 0:00:03 left", ""]
+        lines.clear()
 
 
 @pytest.mark.parametrize(("ending", "takes"), [
@@ -335,18 +341,15 @@ def asked(folder: pathlib.Path, monkeypatch: pytest.MonkeyPatch, words: list[str
     """What a command line asks for, which is not searched."""
     found: dict[str, Any] = {}
 
-    def searched(search: Any, rounds: int | None, seconds: float | None, *more: Any) -> tuple[pfs.Solution, None]:
+    def searched(search: Any, rounds: int | None, _: Any, seconds: float | None, **more: Any) -> pfs.Solution:
         found.update(take=search.take, passes=search.passes, seed=search.seed, rounds=rounds, seconds=seconds,
-                     block=search.shop.to_text(), prove=0, first=search.first, early=[*more, 0][2],
+                     block=search.shop.to_text(), prove=more.get("prove"), first=search.first, early=more.get("early"),
                      method="iterated-greedy" if search.more and search.more.partial else "solve")
-        return search.solution(), None
+        best: pfs.Solution = search.solution()
+        return best
 
-    def proved_for(seconds: float, _: Any, best: pfs.Solution, __: Any) -> tuple[pfs.Solution, None]:
-        found.update(prove=seconds)
-        return best, None
-
-    monkeypatch.setattr(_commands, "searched", searched)
-    monkeypatch.setattr(_commands, "proved_for", proved_for)
+    for module in (_commands, plan):
+        monkeypatch.setattr(module, "solve_and_prove", searched)
     monkeypatch.chdir(folder)
     assert _commands.main(words) == 0
     return found

@@ -65,7 +65,8 @@ def test_the_help_has_no_word_that_is_nowhere_else() -> None:
             page = (TOP / "python" / f"{name}.1").read_text().replace("Ar SIGN", "Ar DECIMAL")
             due = {each.option_strings[-1][1:]: "" if each.nargs == 0 else each.metavar or each.dest.upper()
                    for each in parser._actions[1:] if each.option_strings}
-            assert dict(re.findall(r"^\.It Fl (-[\w-]+)(?: Ar (\S+))?$", page, re.MULTILINE)) == due, name
+            for macro in ("It", "Op")[:1 + (name == "pfs-web")]:
+                assert dict(re.findall(rf"^\.{macro} Fl (-[\w-]+)(?: Ar (\S+))?$", page, re.MULTILINE)) == due, name
         commands: dict[str, Any] = next((each.choices for each in parser._actions
                                          if isinstance(each.choices, dict)), {})
         for each in (parser, *commands.values()):

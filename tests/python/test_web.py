@@ -44,7 +44,10 @@ PLAN: dict[str, Any] = {"shop": SHOP, "order": ORDER, "held": 0, "calendar": DAT
 
 
 def client_of(found: searches.Searches) -> FlaskClient:
-    return app.made({HOST, "planning.example"}, TOKEN, found).test_client()
+    client = app.made({HOST, "planning.example"}, TOKEN, found).test_client()
+    # A client doesn't hold its application.
+    setattr(client, "held", client.application)
+    return client
 
 
 def client_here(found: searches.Searches) -> FlaskClient:
@@ -563,22 +566,23 @@ def test_a_search_finds_what_the_package_finds(client: FlaskClient) -> None:
 
 @pytest.mark.parametrize(("held", "options", "said"), [
     (3, {"order": ["box", "chair", "gone", "shelf"], "seed": 2**53, "seconds": 10**6},
-     "iterated-greedy 9007199254740992 [3, 1, 2, 0] [3, 1, 2] 600 None"),
-    (None, {}, "iterated-greedy 0 [3, 0, 1, 2] [] 0 1.0")])
+     "100 9007199254740992 [3, 1, 2, 0] [3, 1, 2] None 600 0.0 0.0"),
+    (None, {"seconds": 9}, "100 0 [3, 0, 1, 2] [] None 9 0.1 1.0")])
 def test_a_proof_is_tried_where_no_job_is_held(
         client: FlaskClient, held: int | None, options: dict[str, Any], said: str, monkeypatch: pytest.MonkeyPatch,
         caplog: pytest.LogCaptureFixture) -> None:
     """New jobs come after those that are held. Why a search has failed is reported."""
-    optimum = mock.Mock(return_value=SimpleNamespace(optimal=False))
-    monkeypatch.setattr(pfs.Instance, "optimum", optimum)
-    monkeypatch.setattr(pfs.Instance, "solve", lambda _, **given: int(" ".join(
-        str(given[name]) for name in ("method", "seed", "start", "hold", "time_limit", "prove"))))
+    def fail(search: Any, rounds: Any, _: Any, seconds: int, **given: Any) -> None:
+        start = memoryview(search.start).cast("I").tolist()
+        int(" ".join(map(str, (search.passes, search.seed, start, search.held, rounds, seconds, given["early"],
+                               given["prove"]))))
+
+    monkeypatch.setattr("pfs.plan.plan.solve_and_prove", fail)
     caplog.set_level("INFO")
     name = answer(client, "/api/search", {**PLAN, "held": held, **options})["search"]
     wait_until(lambda: "search: 4 jobs, 3 machines, 0 rounds\n" in caplog.text, "the log names the search")
     got = asked(client, f"/api/search/{name}", method="GET")
     assert (got.status_code, got.json) == (422, {"error": f"invalid literal for int() with base 10: '{said}'"})
-    assert [(*each.args, each.kwargs["start"]) for each in optimum.call_args_list] == [(0.1, [3, 0, 1, 2])] * (not held)
 
 
 def test_searches_wait_in_a_queue_and_are_limited(monkeypatch: pytest.MonkeyPatch) -> None:

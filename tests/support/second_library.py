@@ -213,6 +213,8 @@ def bounds_of_pairs(shop: Instance) -> Iterator[int]:
 # How `struct pfs_iterate_options` lies in memory: the seed, `take`, `held`, `first`, `count`, `partial`, `passes` and
 # `ties`, and 4 bytes to a multiple of 8.
 ITERATE_OPTIONS = struct.Struct("=QQQIIIII4x")
+# The greatest number of a rule for equally good places.
+LAST_RULE = 1
 
 
 def pfs_iterate(shop: Instance, options: bytearray, accept: bytearray, accept_length: int, stay: bytearray,
@@ -226,7 +228,7 @@ def pfs_iterate(shop: Instance, options: bytearray, accept: bytearray, accept_le
     expect(1 <= take <= len([job for job in kept[held:] if job not in staying]), TAKE)
     expect(kept[:held] == shortest[:held], HELD)
     expect(max(partial, passes) <= MOST_PASSES, PASSES)
-    expect(ties <= 1, TIES)
+    expect(ties <= LAST_RULE, TIES)
     expect(first + count <= MOST_ROUNDS, ROUNDS)
     chances = read32(accept)[:accept_length]
     kept, shortest = iterated(shop, kept, shortest, (seed, take, held, first, count, partial, passes, ties),
@@ -304,7 +306,7 @@ def others_of(shop: Instance, sequence: bytearray, length: int, job: int) -> lis
 def pfs_insert_ties(shop: Instance, ties: int, sequence: bytearray, length: int, job: int, place: bytearray,
                     span: bytearray) -> None:
     others = others_of(shop, sequence, length, job)
-    expect(ties <= 1, TIES)
+    expect(ties <= LAST_RULE, TIES)
     order = placed(shop, others, 0, job, ties)
     put64(place, order.index(job))
     put64(span, makespan(shop, order))
@@ -335,7 +337,7 @@ def pfs_construct_ties(shop: Instance, ties: int, sequence: bytearray, length: i
     expect(order_length == length + more_length, LENGTH)
     made = distinct(shop.jobs, read32(sequence)[:length])
     inserted = distinct(shop.jobs, [*made, *read32(more)[:more_length]], length)[length:]
-    expect(ties <= 1, TIES)
+    expect(ties <= LAST_RULE, TIES)
     for job in inserted:
         made = placed(shop, made, 0, job, ties)
     put32(order, made)
@@ -368,7 +370,7 @@ def pfs_local_search(shop: Instance, moved: bytearray, moved_length: int, passes
 def pfs_local_search_ties(shop: Instance, ties: int, moved: bytearray, moved_length: int, passes: int,
                           sequence: bytearray, length: int, span: bytearray) -> None:
     made, each = to_move(shop, moved, moved_length, passes, sequence, length)
-    expect(ties <= 1, TIES)
+    expect(ties <= LAST_RULE, TIES)
     made = improved(shop, made, 0, each, passes, ties)
     put32(sequence, made)
     put64(span, makespan(shop, made))

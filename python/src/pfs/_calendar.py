@@ -1,6 +1,7 @@
 """Dates and times of day for the times of a schedule."""
 from __future__ import annotations
 
+import copy
 import math
 import re
 from bisect import bisect_left, bisect_right
@@ -93,14 +94,24 @@ class Calendar:
     chair,1,2026-12-01 09:00,2026-12-01 13:00
     """
 
-    __slots__ = ("begin", "spans", "loop", "_befores")
+    __slots__ = ("begin", "spans", "loop", "_rule", "_befores")
 
     def __init__(self, begin: str | datetime, shifts: str | Iterable[str] = (), days: str | Iterable[str] = (),
                  closed: str | Iterable[str] = ()) -> None:
-        self.begin = begin_of(begin)
-        self.spans, self.loop = spans_from(self.begin, shifts_of(shifts), days_of(days), dates_of(closed))
+        self.begin, self._rule = begin_of(begin), (shifts_of(shifts), days_of(days), dates_of(closed))
+        self._find_spans()
+
+    def _find_spans(self) -> None:
+        self.spans, self.loop = spans_from(self.begin, *self._rule)
         # How much work there is before each span, and up to the end of the last one.
         self._befores = [0, *accumulate(end - start for start, end in self.spans)]
+
+    def _begun_at(self, begin: datetime) -> Calendar:
+        """The same shifts from another moment on."""
+        found = copy.copy(self)
+        found.begin = begin
+        found._find_spans()
+        return found
 
     @property
     def is_always(self) -> bool:

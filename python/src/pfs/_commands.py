@@ -19,6 +19,7 @@ from collections.abc import Callable, Iterable, Iterator, Sequence
 from functools import partial
 from itertools import islice
 from types import SimpleNamespace
+from typing import Any
 
 from pfs import _library as c, _wording
 from pfs._calendar import Calendar, Clock, begin_of, dates_of, days_of, needed, shifts_of, text_of as date_text
@@ -27,19 +28,18 @@ from pfs._cli import CommandLine, Misused, ShowVersion, number, report, run, wri
 from pfs._faults import Fault
 from pfs._files import content_of, read, read_order
 from pfs._instance import Instance
-from pfs._names import CLOCK, amount, shown
-from pfs._now import Beginning, beginning
+from pfs._names import amount, shown
 from pfs._optional import optional
-from pfs._orders import AFTER_ORDER, FoundOrder, filled, moved, numbers_by_name, order_in, stated_end
-from pfs._proof import EARLY, MOST_JOBS, MOST_MACHINES, is_small, proved
-from pfs._report import JOBS, rows_of, text_table
-from pfs._schedule import Schedule
-from pfs._search import USUAL, Search, limit_of, solve
+from pfs._orders import FoundOrder, moved, numbers_by_name, order_in, stated_end
+from pfs._proof import MOST_JOBS, MOST_MACHINES, solve_and_prove
+from pfs._rounds import USUAL
+from pfs._search import Search, do_nothing, limit_of
 from pfs._solution import Solution
 from pfs._state import State
 from pfs._tables import Table, described, table_of, write_table
 from pfs._words import words_of
 from pfs._workbooks import OPTIONS_SHEET, Workbook
+from pfs.plan.plan import Limits, Plan, calendar_of, is_provable
 
 SIGNALS = (signal.SIGINT, signal.SIGTERM)
 DECIMAL_SIGNS = {"point": ".", "comma": ","}
@@ -105,47 +105,27 @@ def clock(seconds: float) -> str:
     return f"{whole // 3600}:{whole // 60 % 60:02}:{whole % 60:02}"
 
 
-def searched(search: Search, rounds: int | None, seconds: float | None, caught: list[int],
-             keep: Callable[[Solution], None], early: float | None = None) -> tuple[Solution, Exception | None]:
-    """Search up to a round, or without one for some seconds or up to the bound, and call `keep` with the best order at
-    first and after each part. Return the best order, and the error that ended the search early. Before, try for `early`
-    seconds to find and prove an optimal order, as is possible at once for many small instances."""
-    if early:
-        start = None if search.start is None else memoryview(search.start).cast("I")
-        with contextlib.suppress(MemoryError):
-            best = search.shop.optimum(early, start=start, stop=SimpleNamespace(is_set=lambda: bool(caught)))
-            if best.optimal:
-                return best, None
-    progress = ProgressLine(search, rounds, seconds)
+def searched(run: Callable[..., Solution], search: Search, limits: Limits, caught: list[int],
+             keep: Callable[[Solution], object] = do_nothing) -> tuple[Solution, Exception | None]:
+    """Let `run` search within limits, and call `keep` with the best order at first and after each part. Return the best
+    order, and the error that ended the search early."""
+    progress = ProgressLine(search, limits.rounds, limits.seconds)
 
     def is_set() -> bool:
-        best = search.solution()
-        keep(best)
-        progress.update(search.finished().total, best.makespan)
+        if search.last is not None:
+            best = search.solution()
+            keep(best)
+            progress.update(search.finished().total, best.makespan)
+        return bool(caught)
+
+    def watch(left: float) -> bool:
+        progress.show(f"proving that no order is shorter, {clock(left)} left")
         return bool(caught)
 
     try:
-        left = None if rounds is None else rounds - search.first
-        return solve(search, left, None, seconds, stop=SimpleNamespace(is_set=is_set)), None
+        return run(search, limits, stop=SimpleNamespace(is_set=is_set), watch=watch), None
     except (OSError, MemoryError) as fault:
-        return search.solution(), fault
-    finally:
-        progress.show("")
-
-
-def proved_for(seconds: float, search: Search, best: Solution, caught: list[int]) -> tuple[Solution, Exception | None]:
-    """Try to prove for some seconds that an order is optimal. Return it, or a shorter one, with the bound that is
-    proved, and the error that ended the proof early."""
-    progress, end = ProgressLine(search, None, None), time.monotonic() + seconds
-
-    def is_stopped() -> bool:
-        progress.show(f"proving that no order is shorter, {clock(end - time.monotonic())} left")
-        return bool(caught)
-
-    try:
-        return proved(search.shop, best, seconds, is_stopped), None
-    except (OSError, MemoryError) as fault:
-        return getattr(fault, "solution", best), fault
+        return getattr(fault, "solution", None) or search.solution(), fault
     finally:
         progress.show("")
 
@@ -161,17 +141,23 @@ def search_command(given: argparse.Namespace) -> int:
         before = state.read(given.rounds)
         if before is not None:
             search = Search(shop, before, before.rounds, given.take, given.passes, given.seed)
-        best, fault = searched(search, given.rounds, given.seconds, caught, state.write)
+        best, fault = searched(solve_within, search, Limits(given.rounds, given.seconds, 0.0), caught, state.write)
         printed(best.to_text())
         if fault is not None:
             raise fault
     return status_of(caught)
 
 
+def solve_within(search: Search, limits: Limits, **more: Any) -> Solution:
+    """Search up to a round, also of an earlier search."""
+    left = None if limits.rounds is None else limits.rounds - search.first
+    return solve_and_prove(search, left, None, limits.seconds, **more)
+
+
 def plan_command(given: argparse.Namespace) -> int:
     """Find an order for a table with names, and print it. It is printed before all other output, so an error doesn't
     lose it."""
-    calendar = calendar_of(given)
+    calendar = calendar_of(given.begin, given.shift, given.days, given.closed)
     if any(path.lower().endswith(".ics") for path in given.schedule):
         needed(calendar, "a schedule with the ending .ics")
     check_outputs([given.table, given.order, given.compare, given.language, *given.files], given.schedule, given.chart,
@@ -188,20 +174,16 @@ def plan_command(given: argparse.Namespace) -> int:
         Clock(calendar, table.shop)
     written(sys.stderr, f"{shown(described(table.shop))}\n")
     tell(given.table, table.rounded)
-    found = FoundOrder([], {}) if given.order is None else order_in(given.order, table.shop, given.language)
-    shop, found, held, calendar = begin = beginning(given, table.shop, found, calendar)
-    search = plan_search(given, begin)
-    others = [] if given.compare is None else [order_in(given.compare, shop, given.language)]
+    plan = begun_plan(given, table.shop, calendar)
+    search = plan_search(given, plan)
+    others = [] if given.compare is None else [order_in(given.compare, plan.shop, given.language)]
     with signals() as caught:
-        is_tried = given.prove and not search.held and not given.keep and is_small(shop)
-        early = min(EARLY, given.prove, given.seconds) if is_tried and given.rounds is None else 0
-        best, fault = searched(search, given.rounds, given.seconds, caught, lambda _: None, early)
-        if fault is None and is_tried:
-            best, fault = proved_for(given.prove, search, best, caught)
-        tell("--prove", "" if is_tried or not given.is_proof_asked else "not tried: jobs are held, the order is only "
-             f"evaluated, or there are more than {MOST_JOBS} jobs or {MOST_MACHINES} machines")
+        best, fault = searched(plan.solve, search, Limits(given.rounds, given.seconds, given.prove), caught)
+        plan.keep(best)
+        tell("--prove", "" if not given.is_proof_asked or given.prove and is_provable(search) else "not tried: jobs are "
+             f"held, the order is only evaluated, or there are more than {MOST_JOBS} jobs or {MOST_MACHINES} machines")
         faults = [] if fault is None else [fault]
-        for output in outputs_of(given, begin, table, others, best):
+        for output in outputs_of(given, plan, table, others):
             try:
                 output()
             except (OSError, MemoryError, ImportError, ValueError) as failure:
@@ -210,53 +192,62 @@ def plan_command(given: argparse.Namespace) -> int:
     return statuses[0] if statuses else status_of(caught)
 
 
-def outputs_of(given: argparse.Namespace, begin: Beginning, table: Table, others: list[FoundOrder],
-               best: Solution) -> list[Callable[[], object]]:
+def outputs_of(given: argparse.Namespace, plan: Plan, table: Table,
+               others: list[FoundOrder]) -> list[Callable[[], object]]:
     """What a plan writes, one after the other."""
-    shop, calendar = begin.shop, begin.calendar
-    clock = None if calendar is None else Clock(calendar, shop)
     style = table.delimiter, table.has_mark or table.delimiter == ";"
     return [
-        lambda: printed(listed(shop, best, clock) + (reported(shop.schedule(best), calendar) if given.report else "")),
-        *(partial(write_schedule, shop, best, path, *style, calendar, given.language) for path in given.schedule),
-        *(partial(write_table, path, shop, *style) for path in given.rest),
-        *(partial(draw, shop, best, chart, calendar, given.title, given.language) for chart in given.chart),
-        *(partial(compare, given.compare, shop, other, best, clock) for other in others)]
+        lambda: printed(plan.text(given.report)),
+        *(partial(plan.write, path, *style) for path in given.schedule),
+        *(partial(write_table, path, plan.shop, *style) for path in given.rest),
+        *(partial(plan.chart, chart, given.title) for chart in given.chart),
+        *(partial(compare, given.compare, plan, other) for other in others)]
 
 
-def plan_search(given: argparse.Namespace, begin: Beginning) -> Search:
+def begun_plan(given: argparse.Namespace, shop: Instance, calendar: Calendar | None) -> Plan:
+    """How a plan begins: with the table and an order, or with what is left of them at `given.now`."""
+    found = FoundOrder([], {}) if given.order is None else order_in(given.order, shop, given.language)
+    if given.now is None and not given.down:
+        return Plan(shop, found, given.hold, calendar, given.language)
+    if calendar is None or given.order is None and given.now:
+        raise ValueError("--now needs --begin and --order, and --down needs --begin")
+    plan, done = Plan(shop, found, 0, calendar, given.language).rest(
+        given.now or given.begin, given.down, given.hold, given.order)
+    assert plan.calendar is not None
+    begin, held = plan.calendar.begin, len(plan.held)
+    written(sys.stderr, f"from {date_text(begin, 0 if begin.second else -1)} on: {len(done)} finished, {held} held, "
+                        f"{plan.shop.jobs - held} to plan\n")
+    return plan
+
+
+def plan_search(given: argparse.Namespace, plan: Plan) -> Search:
     """The search of a plan. It begins with an order, into which new jobs are inserted. It moves no job that is held."""
     if given.order is None and (given.hold or given.keep):
         raise ValueError(f"{'--hold' if given.hold else '--keep'} needs --order, which says where the jobs are")
-    shop, found = begin.shop, begin.found
-    numbers = numbers_by_name(shop)
+    numbers = numbers_by_name(plan.shop)
     unknown = next((name for name in given.first if name not in numbers), None)
     if unknown is not None:
         raise ValueError(f"--first: {unknown!r} isn't the name of a job of the table")
-    held = list(dict.fromkeys([*found.jobs[:begin.held], *map(numbers.__getitem__, given.first)]))
-    order = list(dict.fromkeys([*held, *found.jobs]))
+    plan.hold(map(numbers.__getitem__, given.first))
     new = []
     if given.order is not None:
-        new = filled(shop, order, len(held))
-        tell(given.order, "left out, as the table has no such jobs", found.gone)
-        tell(given.order, "new, and inserted at their best places", [shop.job_name(job) for job in new])
-    return Search(shop, order if given.order is not None else None, 0, given.take, given.passes, given.seed, held,
-                  new if given.keep else None, method=given.method)
+        new = plan.fill()
+        tell(given.order, "left out, as the table has no such jobs", plan.gone)
+        tell(given.order, "new, and inserted at their best places", [plan.shop.job_name(job) for job in new])
+    return plan.search(given.seed, given.method, given.take, given.passes, new if given.keep else None)
 
 
-def compare(path: str, shop: Instance, other: FoundOrder, best: Solution, clock: Clock | None) -> None:
+def compare(path: str, plan: Plan, found: FoundOrder) -> None:
     """Say on standard error what differs between another order and the plan: the ends, and the jobs that moved."""
-    order: list[int] = best.order.tolist()
-    stated = stated_end(path)
+    stated, names = stated_end(path), plan.shop.job_name
     tell(path, f"says {stated}" if stated else "")
-    if len(other.jobs) == shop.jobs and not other.gone:
-        before = Solution(other.jobs, shop.makespan(other.jobs))
-        ends = [", ".join(ended_at(shop, each, clock)) for each in (before, best)]
-        tell(path, f"{ends[0]}; the plan", [ends[1]])
-    tell(path, "not in the plan", other.gone)
-    tell(path, "new in the plan", [shop.job_name(job) for job in order if job not in other.jobs])
-    tell(path, "moved", [f"{shop.job_name(job)} (place {other.jobs.index(job) + 1} to {order.index(job) + 1})"
-                         for job in moved(order, other.jobs)])
+    if len(found.jobs) == plan.shop.jobs and not found.gone:
+        before = Plan(plan.shop, found, 0, plan.calendar)
+        tell(path, f"{', '.join(before.ends())}; the plan", [", ".join(plan.ends())])
+    tell(path, "not in the plan", found.gone)
+    tell(path, "new in the plan", [names(job) for job in plan.order if job not in found.jobs])
+    tell(path, "moved", [f"{names(job)} (place {found.jobs.index(job) + 1} to {plan.order.index(job) + 1})"
+                         for job in moved(plan.order, found.jobs)])
 
 
 def tell(path: str, what: str, names: Iterable[str] | None = None) -> None:
@@ -264,34 +255,6 @@ def tell(path: str, what: str, names: Iterable[str] | None = None) -> None:
     listed = ", ".join(names or ())
     if listed or names is None and what:
         written(sys.stderr, f"{shown(path)}: {shown(what)}{': ' if listed else ''}{shown(listed)}\n")
-
-
-def write_schedule(shop: Instance, best: Solution, path: str, delimiter: str, mark: bool,
-                   calendar: Calendar | None, language: str) -> None:
-    """Write a schedule, as a workbook or as CSV."""
-    if path.lower().endswith(".xlsx"):
-        shop.schedule(best).to_xlsx(path, calendar=calendar, language=language)
-    elif path.lower().endswith(".ics"):
-        shop.schedule(best).to_ics(path, needed(calendar, "a calendar"))
-    else:
-        shop.schedule(best).to_csv(path, delimiter, mark=mark, calendar=calendar, language=language)
-
-
-def draw(shop: Instance, best: Solution, chart: str, calendar: Calendar | None, title: bool | str,
-         language: str) -> None:
-    """Write a chart of an order."""
-    shop.schedule(best).plot(chart, critical=True, bound=best.bound, calendar=calendar, title=title,
-                             language=language)
-
-
-def calendar_of(given: argparse.Namespace) -> Calendar | None:
-    """The calendar that a plan names, if it does."""
-    if given.begin:
-        return Calendar(given.begin, given.shift, given.days, given.closed)
-    for option in ("shift", "days", "closed"):
-        if getattr(given, option):
-            needed(None, f"`{option}`")
-    return None
 
 
 def check_outputs(inputs: Sequence[str | None], schedules: Sequence[str], charts: Sequence[str],
@@ -320,43 +283,6 @@ def check_outputs(inputs: Sequence[str | None], schedules: Sequence[str], charts
             raise IsADirectoryError(errno.EISDIR, os.strerror(errno.EISDIR), path)
     if endings - {"html"}:
         optional("matplotlib", "plot").rcdefaults()  # no matplotlibrc of the current folder
-
-
-def listed(shop: Instance, best: Solution, clock: Clock | None = None) -> str:
-    """The text of a plan."""
-    makespan, *end = ended_at(shop, best, clock)
-    lines = [makespan, f"bound {span_text(shop, best.bound)}", *(["optimal"] if best.optimal else []), *end]
-    lines += [f"{place} {shown(shop.job_name(job))}" for place, job in enumerate(best.order.tolist(), 1)]
-    return "\n".join(lines) + "\n"
-
-
-def reported(schedule: Schedule, calendar: Calendar | None) -> str:
-    """The text of a report, after a line that ends the order."""
-    shop, report, span = schedule.instance, schedule.report(), schedule._texts(calendar)
-    machines = [[shown(str(cell)) for cell in row]
-                for row in rows_of(report, lambda time: amount(time, shop.decimals, shop.unit))]
-    jobs = [[shown(cell) for cell in (each.name, *span(each.start, each.end))] for each in report.jobs]
-    return (f"{AFTER_ORDER}\n{text_table(machines)}\nbottleneck {shown(report.bottleneck)}\n\n"
-            f"{text_table([[*JOBS], *jobs])}")
-
-
-def span_text(shop: Instance, span: int) -> str:
-    """A time with its unit."""
-    unit = "h" if shop.unit == CLOCK else shown(shop.unit)
-    return f"{amount(span, shop.decimals, shop.unit)} {unit}".rstrip()
-
-
-def ended_at(shop: Instance, best: Solution, clock: Clock | None) -> list[str]:
-    """The makespan of a plan, and when it is finished; not if there are no dates, or the calendar ends before."""
-    found = [f"makespan {span_text(shop, best.makespan)}"]
-    try:
-        schedule = shop.schedule(best)
-        if clock is not None:
-            end = clock.span(0, best.makespan)[1]
-            found.append(f"end {date_text(end, clock.digits(schedule.starts, schedule.ends))}")
-    except ValueError:
-        pass
-    return found
 
 
 def printed(text: str) -> None:

@@ -17,7 +17,7 @@ from pfs._bounds import bound_by_pairs
 from pfs._faults import Interrupted
 from pfs._library import LENGTHS, SHORT, Prepared, quick_insert, quick_insertions, quick_makespan
 from pfs._names import CLOCK, frame_names, is_frame, names_of
-from pfs._proof import proved
+from pfs._proof import solve_and_prove
 from pfs._schedule import Schedule
 from pfs._search import Event, Progress, Search, rule_of
 from pfs._solution import Solution, as_order
@@ -626,8 +626,8 @@ class Instance:
         if type(history) not in BOOLS:
             raise TypeError(f"history must be True or False, not {history!r}")
         try:
-            best = _search.solve(search, rounds, progress, time_limit, target, stop, bool(history))
-            return proved(self, best, seconds, _search.stop_of(stop)) if seconds else best
+            return solve_and_prove(search, rounds, progress, time_limit, target, stop, bool(history),
+                                   prove=seconds or 0.0)
         except Interrupted:
             raise
         except KeyboardInterrupt:

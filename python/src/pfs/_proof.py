@@ -2,17 +2,19 @@
 thread that an interruption leaves running."""
 from __future__ import annotations
 
+import contextlib
 import copy
 import threading
 import time
 from collections.abc import Callable
 from ctypes import byref, c_uint32, c_uint64
-from typing import TYPE_CHECKING
+from typing import TYPE_CHECKING, Any
 
 import numpy as np
 
 from pfs import _library as c
 from pfs._faults import Interrupted
+from pfs._search import Progress, Search, solve, stop_of
 from pfs._solution import Solution
 
 if TYPE_CHECKING:
@@ -95,6 +97,25 @@ class Proof:
             best.makespan = call.makespan.value
         best.bound = max(best.bound, call.bound.value)
         self.best = best
+
+
+def solve_and_prove(search: Search, rounds: int | None, progress: Progress | None, time_limit: Any,
+                    target: int | None = None, stop: Any = None, history: bool = False, *, early: float = 0.0,
+                    prove: float = 0.0, watch: Callable[[float], bool] | None = None) -> Solution:
+    """Run a search, and then try for `prove` seconds to prove that its order is optimal. Before, try for `early`
+    seconds to find and prove an optimal order, as is possible at once for many small instances. `watch`, by default
+    `stop`, says whether the proof has to end, from the seconds that are left."""
+    if early:
+        with contextlib.suppress(MemoryError):
+            start = None if search.start is None else memoryview(search.start).cast("I")
+            best = search.shop.optimum(early, start=start, stop=stop)
+            if best.optimal:
+                return best
+    best = solve(search, rounds, progress, time_limit, target, stop, history)
+    if not prove:
+        return best
+    end, is_stopped = time.monotonic() + prove, stop_of(stop)
+    return proved(search.shop, best, prove, lambda: watch(end - time.monotonic()) if watch else is_stopped())
 
 
 def proved(shop: Instance, best: Solution, seconds: float, is_stopped: Callable[[], bool]) -> Solution:

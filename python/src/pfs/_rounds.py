@@ -21,6 +21,19 @@ UNWRITTEN = 2**64 - 1
 # The most chances of `accept_of`.
 MOST_ACCEPTED = 200_000
 TIES: Final = {"first": 0, "idle": 1}
+MOST_PASSES: Final = 100
+MOST_TEMPERATURE: Final = 1_000
+
+
+class Usual(NamedTuple):
+    """The defaults of a method."""
+
+    take: int
+    passes: int
+
+
+# The methods: the profile of `pfs solve`, and the search that also accepts longer orders.
+USUAL: Final = {"solve": Usual(4, 0), "iterated-greedy": Usual(2, MOST_PASSES)}
 
 
 class RoundsOptions(ctypes.Structure):
@@ -71,7 +84,7 @@ def accept_of(temperature: float, total: int, operations: int) -> ctypes.Array[c
     return (c_uint32 * len(found))(*[2**32 - 1][:len(found)], *found[1:])
 
 
-def iterating(total: int, operations: int, partial: int = 100, ties: str = "idle", temperature: float = 0.5,
+def iterating(total: int, operations: int, partial: int = MOST_PASSES, ties: str = "idle", temperature: float = 0.5,
               held: int = 0, stay: bytes = b"") -> Iterating:
     """Return the options for an instance by the sum and the number of its times. `stay` has a byte for each job."""
     return Iterating(partial, TIES[ties], accept_of(temperature, total, operations), held, stay)

@@ -4,13 +4,13 @@ from __future__ import annotations
 import time
 from collections.abc import Callable, Collection, Sequence
 from ctypes import byref, c_uint64
-from typing import TYPE_CHECKING, Any, NamedTuple, Protocol, TypeAlias
+from typing import TYPE_CHECKING, Any, Protocol, TypeAlias
 
 import numpy as np
 
 from pfs import _library as c
 from pfs._faults import Interrupted
-from pfs._rounds import TIES, Iterating, Pace, Part, Rounds, iterating
+from pfs._rounds import MOST_TEMPERATURE, TIES, USUAL, Iterating, Pace, Part, Rounds, iterating
 from pfs._solution import Improvement, Solution, as_order
 from pfs._validate import BOOLS, Jobs, as_uint32_bytes, checked_int, checked_order, jobs_error
 
@@ -18,18 +18,6 @@ if TYPE_CHECKING:
     from pfs._instance import Instance
 
 ROUNDS = 1_000
-
-
-class Usual(NamedTuple):
-    """The defaults of a method."""
-
-    take: int
-    passes: int
-
-
-MOST_TEMPERATURE = 1_000
-# The methods: the profile of `pfs solve`, and the search that also accepts longer orders.
-USUAL = {"solve": Usual(4, 0), "iterated-greedy": Usual(2, c.MOST_PASSES)}
 
 
 class Bar(Protocol):

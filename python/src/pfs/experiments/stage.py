@@ -26,7 +26,8 @@ from pfs._atomic import atomic_write
 from pfs._benchmarks import taillard_rows
 from pfs._cli import version
 from pfs.experiments import ExperimentError, listed, one, plain
-from pfs.experiments.plan import OF_ITERATED, Reference, Row, is_iterated, read_plan, reference_for, reference_of
+from pfs.experiments.plan import (OF_ITERATED, Reference, Row, is_iterated, read_plan, reference_for, reference_of,
+                                  usual_of)
 
 # What plan.json has of a run: columns of the CSV, its number, the copy of its instance, and the seconds of a search by
 # time. Unknown values are empty, and hyphens in runs.tsv, which is made of it: a line for each number.
@@ -302,7 +303,7 @@ def settings_of(method: dict[str, Any], jobs: str, machines: str, label: str) ->
     """Yields the rounds, seconds, take, passes, seed, repetition and time factor of each run of a method on an
     instance, whose size is unknown if pfs rejects it."""
     is_pfs = "command" not in method
-    usual = str(min(2 if is_iterated(method) else 4, int(jobs))) if jobs and is_pfs else ""
+    usual = str(min(usual_of(method).take, int(jobs))) if jobs and is_pfs else ""
     # the milliseconds of a time factor are jobs times half the machines times the factor
     unit = int(jobs) * int(machines) / 2000 if jobs else 0
     budgets = [(str(rounds), "", "") for rounds in method["rounds"]]
