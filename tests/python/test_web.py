@@ -378,7 +378,11 @@ def test_fields_of_a_request() -> None:
     cases: list[dict[str, Any]] = [{}, {"x": None}, {"x": 0}]
     assert [plans.field(given, "x", int, 7) for given in cases] == [7, 7, 0]
     assert plans.field({"x": 9}, "x", int, most=9) == 9
-    assert plans.text_from([[2, ["a", "b"]], [2**20, []]], ";") == "sep=;\n\na;b\r\n" + "\n" * (2**20 - 3) + '""\r\n'
+    assert plans.rows_from([[2, ["a ", "'=b"]], [7, [" "]], [2**20, ["c"]]]) == [(2, ["a", "=b"]), (2**20, ["c"])]
+    for rows in ([[1, ["a"] * 16_385]], [[2, ["a"]], [2, ["b"]]], [[2**20 + 1, ["a"]]], [["a"]], [[0, ["a"]]], {}):
+        with pytest.raises(apart.Wrong, match=str(plans.OTHER_FORM)):
+            plans.rows_from(rows)
+    assert len(plans.rows_from([[1, ["a"] * 16_384]])) == 1
     for value in (-1, 10, True, 9.0, "9", [9]):
         with pytest.raises(apart.Wrong, match=str(plans.OTHER_FORM)):
             plans.field({"x": value}, "x", int, most=9)

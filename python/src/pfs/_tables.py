@@ -9,7 +9,7 @@ import warnings
 from collections.abc import Callable, Iterable, Iterator, Sequence
 from functools import cached_property, partial
 from itertools import islice
-from typing import NamedTuple
+from typing import NamedTuple, TypeAlias
 
 import numpy as np
 
@@ -80,6 +80,10 @@ TIMES_AS_NAMES = ("the names of the {what}s are numbers, as if the {part} of nam
 SAVE_AS = "save it as CSV UTF-8 (Excel), or as CSV with the character set Unicode (UTF-8) (LibreOffice)"
 
 
+# What gives the rows of a table that aren't empty, with their numbers.
+Records: TypeAlias = "Callable[[], Iterable[tuple[int, list[str]]]]"
+
+
 class Table(NamedTuple):
     """A table that was read."""
 
@@ -109,11 +113,11 @@ class Cell(NamedTuple):
 class Rows:
     """A table: its rows that aren't empty, without titles and without empty columns, and its faults so far."""
 
-    def __init__(self, path: str, text: str, texts: set[tuple[int, int]] | None, is_chosen: bool,
-                 faults: list[TableFault]) -> None:
+    def __init__(self, path: str, records: Records, delimiter: str, texts: set[tuple[int, int]] | None,
+                 is_chosen: bool, faults: list[TableFault]) -> None:
         self.path = path
-        self.text = text
-        self.delimiter = delimiter_of(text)
+        self.records = records
+        self.delimiter = delimiter
         # The cells of a workbook that are texts, and look like numbers with a separator; None in another table.
         self.texts = texts
         # Whether the machines were named.
@@ -141,7 +145,7 @@ class Rows:
     def times(self) -> Iterator[list[Cell]]:
         """Read the times again, row by row: all of their cells would take a hundred times the memory of the text."""
         lines, columns = {job.line for job in self.jobs}, [head.column for head in self.machines]
-        for line, row in records(self.text, self.path, self.delimiter):
+        for line, row in self.records():
             if line in lines:
                 yield [Cell(line, column, row[column - 1] if column <= len(row) else "") for column in columns]
 
@@ -251,25 +255,29 @@ def table_of(source: str | os.PathLike[str], unit: str, decimal: str | None, all
              most_decimals: int | None = None) -> Table:
     """Read a table. The parameters are those of `read_csv`."""
     path = os.fspath(source)
-    return table_in(content_of(path, "table"), path, unit, decimal, allow_totals, machines, sheet, most_decimals)
-
-
-def table_in(content: bytes, path: str, unit: str, decimal: str | None, allow_totals: bool,
-             machines: Iterable[str] | None, sheet: str | None, most_decimals: int | None,
-             texts: set[tuple[int, int]] | None = None) -> Table:
-    """Read a table from the content of a file, or from a sheet of a workbook as CSV with the places of its texts."""
-    most_decimals = None if most_decimals is None else checked_int(most_decimals, "decimals", 0, 9)
-    if decimal not in (None, ".", ","):
-        raise ValueError(f"decimal must be '.' or ',', not {decimal!r}")
-    faults: list[TableFault] = []
+    content, faults, note, texts = content_of(path, "table"), list[TableFault](), "", None
     if content.startswith(ARCHIVE):
         text, note, texts = sheet_of(content, path, sheet)
     else:
-        text, note = text_of(content, path, faults), ""
-    if sheet is not None and not content.startswith(ARCHIVE):
-        raise ValueError(f"{path} isn't a workbook (.xlsx), and has no sheet {sheet!r}")
+        text = text_of(content, path, faults)
+        if sheet is not None:
+            raise ValueError(f"{path} isn't a workbook (.xlsx), and has no sheet {sheet!r}")
+    delimiter = delimiter_of(text)
+    shop, rounded = table_in(lambda: records(text, path, delimiter), path, delimiter, unit, decimal, allow_totals,
+                             machines, most_decimals, texts, faults)
+    return Table(shop, delimiter, content.startswith(MARKS), note, rounded)
+
+
+def table_in(records: Records, path: str, delimiter: str, unit: str, decimal: str | None, allow_totals: bool,
+             machines: Iterable[str] | None, most_decimals: int | None, texts: set[tuple[int, int]] | None,
+             faults: Iterable[TableFault] = ()) -> tuple[Instance, str]:
+    """Read a table from the rows of a file, with its faults so far, or of a workbook, with the places of its texts.
+    Return it, and what was rounded."""
+    most_decimals = None if most_decimals is None else checked_int(most_decimals, "decimals", 0, 9)
+    if decimal not in (None, ".", ","):
+        raise ValueError(f"decimal must be '.' or ',', not {decimal!r}")
     names = list(machines or ())
-    table = rows_of(Rows(path, text, texts, bool(names), faults), names)
+    table = rows_of(Rows(path, records, delimiter, texts, bool(names), [*faults]), names)
     if not allow_totals:
         leave_out_totals(table)
     heads, found = without_units(table, unit)
@@ -283,7 +291,7 @@ def table_in(content: bytes, path: str, unit: str, decimal: str | None, allow_to
         reject_sums(table, times)
     shop = Instance(times, name=os.path.basename(path), job_names=job_names, machine_names=machine_names, unit=found,
                     decimals=decimals)
-    return Table(shop, table.delimiter, content.startswith(MARKS), note, sign.rounded())
+    return shop, sign.rounded()
 
 
 def sheet_of(content: bytes, path: str, sheet: str | None) -> tuple[str, str, set[tuple[int, int]]]:
@@ -342,6 +350,11 @@ def delimiter_of(text: str) -> str:
     return next((sign for sign in counts if 2 * counts[sign] > count), ",")
 
 
+def texts_in(row: Iterable[str]) -> list[str]:
+    """Return the texts of cells."""
+    return [text_in_cell(cell) if "'" in cell else cell.strip() for cell in row]
+
+
 def records(text: str, path: str, delimiter: str) -> Iterator[tuple[int, list[str]]]:
     """Return the rows that aren't empty, with their numbers, without one that names the separator."""
     signs, line, number = 0, 1, 0
@@ -358,7 +371,7 @@ def records(text: str, path: str, delimiter: str) -> Iterator[tuple[int, list[st
     try:
         for row in reader:
             number += row[:1] != ["sep="] or number > 0
-            cells = [text_in_cell(cell) if "'" in cell else cell.strip() for cell in row]
+            cells = texts_in(row)
             if any(cells) and number:
                 yield number, cells
             signs, line = 0, reader.line_num + 1
@@ -373,7 +386,7 @@ def rows_of(table: Rows, machines: list[str]) -> Rows:
     head: list[str] = []
     titles: list[Cell] = []
     used: set[int] = set()
-    for line, row in records(table.text, path, table.delimiter):
+    for line, row in table.records():
         if len(titles) + len(table.jobs) == MOST_ROWS:
             raise TableFault(path, line, 0, f"the table has more than {MOST_ROWS:,} rows")
         first = Cell(line, 1, row[0])
@@ -386,7 +399,7 @@ def rows_of(table: Rows, machines: list[str]) -> Rows:
     if not titles and not used:
         raise TableFault(path, 1, 0, "the table is empty")
     if not used:
-        reject_columns(path, titles, machines, table.text, table.delimiter)
+        reject_columns(table, titles, machines)
     line = table.corner.line
     columns = [the_column(table, head, name) for name in machines] or sorted(used)[1:]
     table.machines = [Cell(line, column, head[column - 1] if column <= len(head) else "") for column in columns]
@@ -423,15 +436,14 @@ def the_column(table: Rows, head: Sequence[str], name: str) -> int:
     return column
 
 
-def reject_columns(path: str, titles: Sequence[Cell], machines: list[str], text: str, delimiter: str) -> None:
+def reject_columns(table: Rows, titles: Sequence[Cell], machines: list[str]) -> None:
     """No row has names of machines, or not the given ones: say what the row with the most of them lacks."""
     if not machines:
-        raise TableFault(path, titles[0].line, 0, f"0 machines: there may be 1 to {c.MOST_MACHINES}")
-    line, row = max(records(text, path, delimiter), key=lambda each: sum(bool(columns_of(each[1], name))
-                                                                         for name in machines))
+        raise TableFault(table.path, titles[0].line, 0, f"0 machines: there may be 1 to {c.MOST_MACHINES}")
+    line, row = max(table.records(), key=lambda each: sum(bool(columns_of(each[1], name)) for name in machines))
     missing = next(name for name in machines if not columns_of(row, name))
     others = ", ".join(filter(None, row[1:]))
-    raise TableFault(path, line, 0, f"no column is named {missing!r}: this row has {others or 'no other names'} "
+    raise TableFault(table.path, line, 0, f"no column is named {missing!r}: this row has {others or 'no other names'} "
                                     "(`machines`)")
 
 

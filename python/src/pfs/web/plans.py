@@ -3,8 +3,6 @@ are called apart (`pfs.web.apart`)."""
 from __future__ import annotations
 
 import base64
-import csv
-import io
 import pathlib
 import zipfile
 from typing import Any
@@ -52,7 +50,7 @@ def read(given: dict[str, Any], folder: str) -> dict[str, Any]:
     """What is said of a table: of a file, which comes with its rows, or of rows that were changed."""
     options = field(given, "options", dict, {})
     if "content" not in given:
-        return read_rows(given.get("rows"), options)
+        return shop_of(rows_from(given.get("rows")), options)
     content = base64.b64decode(field(given, "content", str, "", 2**23), validate=True)
     name, sheet = field(given, "name", str, ""), field(options, "sheet", str)
     faults, sheets, marked = list[TableFault](), list[str](), None
@@ -64,14 +62,14 @@ def read(given: dict[str, Any], folder: str) -> dict[str, Any]:
     else:
         table = tables.text_of(content, name, faults)
     delimiter = tables.delimiter_of(table)
-    rows = [[line, cells] for line, cells in tables.records(table, name, delimiter)]
+    rows = [*tables.records(table, name, delimiter)]
     if len(rows) > tables.MOST_ROWS:
         raise Wrong(f"the table has more than {tables.MOST_ROWS:,} rows")
     return {"rows": rows, "delimiter": delimiter, "texts": marked, "sheets": sheets, "sheet": sheet,
-            "isOther": bool(faults), **read_rows(rows, {**options, "delimiter": delimiter, "texts": marked})}
+            "isOther": bool(faults), **shop_of(rows, {**options, "delimiter": delimiter, "texts": marked})}
 
 
-def read_rows(rows: Any, options: dict[str, Any]) -> dict[str, Any]:
+def shop_of(rows: list[tuple[int, list[str]]], options: dict[str, Any]) -> dict[str, Any]:
     """The shop of a table, or its faults by their cells. A workbook's has `texts`, the cells that aren't numbers."""
     marked = field(options, "texts", list)
     if marked and not all(type(each) is list and [*map(type, each)] == [int, int] for each in marked):
@@ -80,34 +78,31 @@ def read_rows(rows: Any, options: dict[str, Any]) -> dict[str, Any]:
     if delimiter not in (",", ";", "\t"):
         raise OTHER_FORM
     try:
-        table = tables.table_in(
-            text_from(rows, delimiter).encode(), "table", field(options, "unit", str, ""),
-            field(options, "decimal", str) or None, field(options, "totals", bool, False), machines or None,
-            None, field(options, "decimals", int),
+        shop, rounded = tables.table_in(
+            lambda: rows, "table", delimiter, field(options, "unit", str, ""), field(options, "decimal", str) or None,
+            field(options, "totals", bool, False), machines, field(options, "decimals", int),
             None if marked is None else {(line, column) for line, column in marked})
     except TableFault as fault:
         found = [{"line": each.line, "column": each.column, "text": as_controls(each.text)}
                  for each in (fault, *fault.others)]
         return {"faults": found[:MOST_FAULTS], "more": len(found[MOST_FAULTS:]),
                 "suggested": tables.likely_machines(rows)}
-    shop = table.shop
-    return {"faults": [], "more": 0, "suggested": [], "rounded": table.rounded,
+    return {"faults": [], "more": 0, "suggested": [], "rounded": rounded,
             "shop": {"jobs": shop.job_names, "machines": shop.machine_names, "unit": shop.unit,
                      "decimals": shop.decimals, "times": shop.times.tolist()}}
 
 
-def text_from(rows: Any, delimiter: str) -> str:
-    """The rows of the page, each with its line, as CSV. The delimiter shows a table's decimal sign."""
-    out, before = io.StringIO(f"sep={delimiter}\n"), 0
-    out.seek(0, io.SEEK_END)
-    writer = csv.writer(out, delimiter=delimiter)
+def rows_from(rows: Any) -> list[tuple[int, list[str]]]:
+    """The rows of the page that aren't empty, each with its line."""
+    before, found = 0, list[tuple[int, list[str]]]()
     for row in rows if type(rows) is list else [None]:
         if type(row) is not list or len(row) != 2 or type(row[0]) is not int or not before < row[0] <= MOST_ROWS:
             raise OTHER_FORM
-        out.write("\n" * (row[0] - before - 1))
-        writer.writerow(texts(row[1]) or [""])
-        before = row[0]
-    return out.getvalue()
+        before, cells = row[0], tables.texts_in(texts(row[1]))
+        if len(cells) > tables.MOST_CELLS:
+            raise OTHER_FORM
+        found += [(before, cells)] if any(cells) else []
+    return found
 
 
 def shop_from(given: dict[str, Any]) -> Instance:
@@ -192,7 +187,7 @@ def rest(given: dict[str, Any], folder: str) -> dict[str, Any]:
     until = [(machine, field(down, machine, str, "")) for machine in down]
     needed(plan.calendar, "`now`")
     left, done = plan.rest(field(given, "at", str, ""), until)
-    rows: list[Any] = [[line, row] for line, row in enumerate(tables.text_rows(left.shop), 1)]
+    rows = [*enumerate(tables.text_rows(left.shop), 1)]
     return {"rows": rows, "delimiter": ",", "order": left.shop.job_names, "held": len(left.held), "done": done,
             "begin": text_of(needed(left.calendar, "`now`").begin, 0).replace(" ", "T"),
-            **read_rows(rows, {"totals": True, "machines": rows[0][1][1:]})}
+            **shop_of(rows, {"totals": True, "machines": rows[0][1][1:]})}
