@@ -3,6 +3,7 @@ tests/python/test_web_server.py starts it, and test_web_page.py looks at the pag
 import base64
 import copy
 import functools
+import hashlib
 import io
 import itertools
 import json
@@ -12,6 +13,7 @@ import pathlib
 import random
 import re
 import resource
+import struct
 import tempfile
 import time
 import zipfile
@@ -454,9 +456,13 @@ def test_a_server_that_is_busy_says_so(monkeypatch: pytest.MonkeyPatch) -> None:
 
 # Plans
 
+# What tells the table of SHOP from others, as a definition says it.
+NAMES = f"({(*SHOP['jobs'],)}, {(*SHOP['machines'],)}, 'h', 1)".encode()
+TABLE_OF_SHOP = hashlib.sha256(b"(4, 3)" + struct.pack("12I", *sum(SHOP["times"], [])) + NAMES).hexdigest()
 # The response on the plan of docs/PLAN.md.
 TOLD: dict[str, Any] = {
     "makespan": "15.5 h", "span": 155, "bound": "15.5 h", "isOptimal": True, "above": 0.0, "gone": [], "new": [],
+    "isOther": False, "table": TABLE_OF_SHOP,
     "end": "2026-12-01 13:30", "bottleneck": "paint", "moved": [],
     "heads": ["machine", "work", "utilisation %", "idle before", "idle between", "idle after", "critical %"],
     "machines": [["saw", "10.0", 64.5, "0.0", "0.0", "5.5", 6.5], ["drill", "9.5", 61.3, "1.0", "2.0", "3.0", 6.5],
@@ -466,7 +472,7 @@ TOLD: dict[str, Any] = {
 
 
 @pytest.mark.parametrize(("asks", "told"), [
-    ({}, {}), ({"least": 2**53}, {}),
+    ({}, {}), ({"least": 2**53, "of": TABLE_OF_SHOP}, {}), ({"least": 2**53}, {"isOther": True}),
     ({"calendar": {"begin": " 2026-11-30T06:00 ", "shifts": " \n06:00-14:00 \n\n fri:06:00-12:00", "days": " mon-fri",
                    "closed": " "}}, {}),
     ({"calendar": {"shifts": " ", "days": ""}, "title": ""},
@@ -476,7 +482,7 @@ TOLD: dict[str, Any] = {
                                     "frei danach", "kritisch %"]}),
     ({"kept": [["box", "chair", "shelf", "gone"], ["shelf", *ORDER[:3]]]}, {"moved": [[], ["shelf"]]}),
     ({"order": ["box", "stool", "chair", "shelf", "box"], "held": 1}, {"gone": ["stool"], "new": ["table"]}),
-    ({"order": ["box", "chair", "shelf"], "held": 3, "least": 160}, {
+    ({"order": ["box", "chair", "shelf"], "held": 3, "least": 160, "of": TABLE_OF_SHOP}, {
         "makespan": "16.5 h", "span": 165, "bound": "16.0 h", "isOptimal": False, "above": 3.1, "new": ["table"],
         "end": "2026-12-02 06:30", "machines": [
             ["saw", "10.0", 60.6, "0.0", "0.0", "6.5", 60.6], ["drill", "9.5", 57.6, "1.0", "2.0", "4.0", 15.2],
@@ -490,6 +496,19 @@ def test_a_plan_is_told(asks: dict[str, Any], told: dict[str, Any], client: Flas
     assert got == {**TOLD, **told}
     assert ("<title>Week 49</title>" in chart) == ("title" not in asks)
     assert ("Auftrag suchen:" in chart) == ("language" in asks)
+
+
+@pytest.mark.parametrize("other", [
+    {"unit": "min"}, {"decimals": 0}, {"jobs": ["table", "chair", "shelf", "bin"]},
+    {"machines": ["saw", "drill", "oven"]}, {"times": [*SHOP["times"][:3], [10, 10, 59]]}])
+def test_what_was_proved_of_another_table_is_not_used(other: dict[str, Any], client: FlaskClient) -> None:
+    """A title is no part of a table."""
+    shop = {**SHOP, **other}
+    body = {"shop": shop, "order": shop["jobs"][::-1], "least": 10**6, "of": TABLE_OF_SHOP}
+    got = answer(client, "/api/plan", body)
+    assert got["isOther"] and not got["isOptimal"] and got["table"] != TABLE_OF_SHOP
+    again = answer(client, "/api/plan", {**body, "of": got["table"], "title": "Week 50"})
+    assert (again["isOther"], again["isOptimal"]) == (False, True)
 
 
 @pytest.mark.parametrize(("times", "told"), [([[0, 1, 0], [0, 0, 1]], ("2", "1", False, 100.0)),

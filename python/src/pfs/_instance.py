@@ -1,6 +1,7 @@
 """The class `Instance`."""
 from __future__ import annotations
 
+import hashlib
 import os
 from collections.abc import Iterable
 from ctypes import byref, c_size_t, c_uint64, create_string_buffer
@@ -706,3 +707,11 @@ class Instance:
             The file, and the layout as for :meth:`to_text`.
         """
         atomic_write(path, self.to_text(layout).encode())
+
+
+def digest_of(shop: Instance) -> str:
+    """Return what tells a table from others: a digest of its times, the names of its jobs and machines, and its unit.
+    Without names and a unit it is that of the times alone."""
+    names = shop.job_names, shop.machine_names, shop.unit, shop.decimals
+    text = repr(shop.times.shape).encode() + shop._data + (repr(names).encode() if any(names) else b"")
+    return hashlib.sha256(text).hexdigest()

@@ -12,7 +12,7 @@ from pfs import _library as c
 from pfs._atomic import atomic_write
 from pfs._cli import Refused
 from pfs._files import bytes_of
-from pfs._instance import Instance
+from pfs._instance import Instance, digest_of
 from pfs._search import Search
 from pfs._solution import Solution
 
@@ -35,7 +35,7 @@ class State:
         self.shop = shop
         # Only a search with the same inputs may continue from its state.
         self.identity = {
-            "instance": hashlib.sha256(repr(shop.times.shape).encode() + shop._data).hexdigest(),
+            "instance": digest_of(shop),
             "start": "NEH" if search.start is None else hashlib.sha256(search.start).hexdigest(),
             "take": search.take, "passes": search.passes, "seed": search.seed}
         self.cells = 0

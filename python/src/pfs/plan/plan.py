@@ -9,7 +9,7 @@ from typing import Any, NamedTuple
 import numpy as np
 
 from pfs._calendar import Calendar, Clock, begin_of, needed, text_of
-from pfs._instance import Instance
+from pfs._instance import Instance, digest_of
 from pfs._names import CLOCK, amount, shown
 from pfs._orders import AFTER_ORDER, FoundOrder, filled
 from pfs._proof import EARLY, is_small, solve_and_prove
@@ -31,17 +31,27 @@ class Limits(NamedTuple):
 
 class Plan:
     """A plan of a shop. `order` has the jobs that have a place so far, of which the first ones are held, and `gone` the
-    jobs of it that the shop lacks. `least` is the greatest bound that is known of it."""
+    jobs of it that the shop lacks."""
 
     def __init__(self, shop: Instance, found: FoundOrder = FoundOrder([], {}), held: int = 0,
-                 calendar: Calendar | None = None, language: str = "en", least: int = 0) -> None:
-        self.shop, self.calendar, self.language, self.least = shop, calendar, language, least
+                 calendar: Calendar | None = None, language: str = "en") -> None:
+        self.shop, self.calendar, self.language, self.least = shop, calendar, language, 0
         self.order, self.gone = found
         self.held = self.order[:held]
 
     @cached_property
     def clock(self) -> Clock | None:
         return None if self.calendar is None else Clock(self.calendar, self.shop)
+
+    @cached_property
+    def table(self) -> str:
+        """What tells its table from others."""
+        return digest_of(self.shop)
+
+    def know(self, least: int, table: str) -> bool:
+        """Use a bound that is known of a table, unless that is another one. Return whether it is used."""
+        self.least = least if table == self.table else 0
+        return self.least == least
 
     def hold(self, jobs: Iterable[int]) -> None:
         """Hold these jobs too, behind those that are held."""

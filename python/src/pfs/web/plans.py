@@ -130,26 +130,27 @@ def placed(plan: Plan, names: list[str], held: int) -> dict[str, list[str]]:
     return {"gone": [name for name in names if name not in numbers], "new": [*map(plan.shop.job_name, new)]}
 
 
-def plan_from(given: dict[str, Any]) -> tuple[Plan, dict[str, list[str]]]:
-    """The plan of a request, and the names of jobs that are gone or new."""
+def plan_from(given: dict[str, Any]) -> tuple[Plan, dict[str, Any]]:
+    """The plan of a request, and what is said of it: the names of jobs that are gone or new, and whether what the page
+    remembers is of another table."""
     plan = Plan(shop := shop_from(given))
-    names = placed(plan, texts(given.get("order")), field(given, "held", int, 0, shop.jobs))
-    plan.least = field(given, "least", int, 0, 2**53)
+    said: dict[str, Any] = placed(plan, texts(given.get("order")), field(given, "held", int, 0, shop.jobs))
+    said["isOther"] = not plan.know(field(given, "least", int, 0, 2**53), field(given, "of", str, ""))
     # A line has a shift; a comma is between days and dates.
     begin, shifts, days, closed = (field(field(given, "calendar", dict, {}), name, str, "").strip()
                                    for name in ("begin", "shifts", "days", "closed"))
     plan.calendar = calendar_of(begin, [*filter(None, map(str.strip, shifts.split("\n")))], days, closed)
     # It can't name a file.
     plan.language = "de" if field(given, "language", str) == "de" else "en"
-    return plan, names
+    return plan, said
 
 
 def told(given: dict[str, Any], folder: str) -> dict[str, Any]:
     """What a plan comes to, with its chart, and the jobs that have moved from orders that were kept."""
-    (plan, names), chart = plan_from(given), pathlib.Path(folder, "chart.html")
+    (plan, said), chart = plan_from(given), pathlib.Path(folder, "chart.html")
     jobs, (heads, *machines), (_, *end) = plan.jobs(), plan.machines(), plan.ends()
     plan.chart(str(chart), plan.shop.name or True)
-    return {**quality(plan), **names,
+    return {**quality(plan), **said, "table": plan.table,
             "end": end[0].removeprefix("end ") if end else "", "bottleneck": plan.report.bottleneck,
             "machines": machines, "heads": [*map(words_of(plan.language), heads)],
             "moved": [moved([name for name, *_ in jobs], texts(each)) for each in field(given, "kept", list, [])],

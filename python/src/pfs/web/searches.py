@@ -68,7 +68,7 @@ class Run:
             return {**found, "makespan": plan.span(self.makespan) if self.makespan else "",
                     "bound": plan.span(plan.shop.bound())}
         order = [plan.shop.job_name(job) for job in plan.order]
-        return {**found, **quality(plan), "order": order, "least": plan.best.bound}
+        return {**found, **quality(plan), "order": order, "least": plan.best.bound, "of": plan.table}
 
 
 class Searches:
