@@ -11,7 +11,7 @@ from typing import Any
 
 import fuzz
 import pytest
-from pfs._rounds import TIES
+from pfs.binding.rounds import TIES
 from support import second_library, second_program
 from support.growths import Shim
 from support.library import (HEADER, SUPPORT, Library, Memory, Number, compile_quietly, compiled, list32,

@@ -19,8 +19,12 @@ from typing import Any
 
 import pfs
 import pytest
-from pfs import _commands, _library, _rounds, _search, _state, _wording
-from pfs._cli import Misused, version
+from pfs.commands import main as _commands
+from pfs.binding import library as _library, rounds as _rounds
+from pfs.shops import search as _search
+from pfs.files import state as _state
+from pfs.base import wording as _wording
+from pfs.commands.cli import Misused, version
 from pfs.plan import plan
 from pfs.plan.plan import Limits
 from support import plainly
@@ -189,13 +193,13 @@ def test_a_state_is_for_the_options_of_its_search(folder: pathlib.Path, before: 
     ([*LONG, "--start", "/dev/zero"], "pfs: order file too long\n"),
     *(([*LONG, "--state", path], f"pfs: {path}: not the state of a search: longer than 67,108,864 bytes\n")
       for path in ("/dev/full", "/dev/zero", "long")),
-    *((["pfs._gantt", path, "picture.svg"], "pfs-gantt: not a time table: longer than 67,108,864 bytes\n")
+    *((["pfs.commands.gantt", path, "picture.svg"], "pfs-gantt: not a time table: longer than 67,108,864 bytes\n")
       for path in ("/dev/zero", "long"))])
 def test_files_without_end(folder: pathlib.Path, words: list[str], error: str) -> None:
     """Less memory is taken than the file would need."""
     with open(folder / "long", "wb") as file:
         file.truncate(67_108_865)
-    words = words if words[0] == "pfs._gantt" else ["pfs", *words]
+    words = words if words[0] == "pfs.commands.gantt" else ["pfs", *words]
     child = subprocess.run(["prlimit", "--as=4000000000", sys.executable, "-m", *words], cwd=folder, env=environment(),
                            capture_output=True, text=True, timeout=60)
     assert (child.returncode, child.stdout, child.stderr) == (2, "", error)
@@ -913,7 +917,7 @@ def test_words_that_a_terminal_would_take_for_commands(folder: pathlib.Path, wor
 # The console program pfs-plan
 
 # As the wheel's and the package's scripts call it.
-CALL = "import sys; sys.argv[0] = 'pfs-plan'; from pfs._commands import plan_program; sys.exit(plan_program())"
+CALL = "import sys; sys.argv[0] = 'pfs-plan'; from pfs.commands.main import plan_program; sys.exit(plan_program())"
 CHAIRS = "job [min],saw,drill\nchair,3,2\ntable,2,5\n"
 
 
@@ -956,7 +960,7 @@ def test_an_experiment_needs_a_command(tmp_path: pathlib.Path) -> None:
 
 
 @pytest.mark.parametrize("words", [["-m", "pfs", "plan", "times.csv", "--chart", "made.png"],
-                                   ["-m", "pfs._gantt", "table", "made.png"]])
+                                   ["-m", "pfs.commands.gantt", "table", "made.png"]])
 def test_settings_of_matplotlib_in_the_current_folder_change_no_picture(tmp_path: pathlib.Path,
                                                                         words: list[str]) -> None:
     pytest.importorskip("matplotlib")

@@ -16,7 +16,8 @@ import pfs
 import pytest
 from hypothesis import given
 from hypothesis import strategies as st
-from pfs import _library, _proof, _search
+from pfs.binding import library as _library
+from pfs.shops import proof as _proof, search as _search
 from support import plainly
 
 # No proof of it ends within minutes.
@@ -206,7 +207,7 @@ def test_without_a_thread_nothing_is_proved(monkeypatch: pytest.MonkeyPatch) -> 
 
 def test_a_call_that_is_left_behind_keeps_no_program_from_ending(tmp_path: Any) -> None:
     begun = time.monotonic()
-    done = plainly.python("-c", f"import pfs, threading; from pfs import _proof; _proof.NODES = 10**9\n"
+    done = plainly.python("-c", f"import pfs, threading; from pfs.shops import proof; proof.NODES = 10**9\n"
                           f"print(pfs.taillard({HARD}).solve(1, prove=0.3).optimal)", cwd=tmp_path)
     assert (done.stdout, done.stderr, done.returncode) == ("False\n", "", 0) and time.monotonic() - begun < 20
 

@@ -18,7 +18,6 @@ import tempfile
 import time
 import zipfile
 from collections.abc import Callable, Iterator
-from types import SimpleNamespace
 from typing import Any
 from unittest import mock
 
@@ -32,7 +31,7 @@ from support.tools import wait_until
 for module in ("flask", "waitress", "openpyxl"):
     require_module(module)
 from flask.testing import FlaskClient
-from pfs import _tables
+from pfs.files import tables as _tables
 from pfs.web import app, apart, plans, searches
 from werkzeug.test import TestResponse
 

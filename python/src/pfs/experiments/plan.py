@@ -12,8 +12,8 @@ import sys
 from collections.abc import Callable, Iterable, Iterator
 from typing import Any, TypeAlias, cast
 
-from pfs._benchmarks import canonical
-from pfs._rounds import MOST_PASSES, MOST_ROUNDS, MOST_TEMPERATURE, TIES, USUAL, Usual
+from pfs.base.benchmarks import canonical
+from pfs.binding.rounds import MOST_PASSES, MOST_ROUNDS, MOST_TEMPERATURE, TIES, USUAL, Usual
 from pfs.experiments import ExperimentError
 
 # The greatest makespan that an order file can state.

@@ -8,16 +8,16 @@ from typing import Any, NamedTuple
 
 import numpy as np
 
-from pfs._calendar import Calendar, Clock, begin_of, needed, text_of
-from pfs._instance import Instance, digest_of
-from pfs._names import CLOCK, amount, shown
-from pfs._orders import AFTER_ORDER, FoundOrder, filled
-from pfs._proof import EARLY, is_small, solve_and_prove
-from pfs._report import JOBS, Report, rows_of, text_table
-from pfs._rest import begun, rest_of, spans_of
-from pfs._schedule import Schedule
-from pfs._search import Event, Progress, Search
-from pfs._solution import Solution
+from pfs.base.names import CLOCK, amount, shown
+from pfs.plan.orders import AFTER_ORDER, FoundOrder, filled
+from pfs.schedules.calendar import Calendar, Clock, begin_of, needed, text_of
+from pfs.schedules.report import JOBS, Report, rows_of, text_table
+from pfs.schedules.rest import begun, rest_of, spans_of
+from pfs.schedules.schedule import Schedule
+from pfs.shops.instance import Instance, digest_of
+from pfs.shops.proof import EARLY, is_small, solve_and_prove
+from pfs.shops.search import Event, Progress, Search
+from pfs.shops.solution import Solution
 
 
 class Limits(NamedTuple):

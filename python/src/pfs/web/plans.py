@@ -7,16 +7,16 @@ import pathlib
 import zipfile
 from typing import Any
 
-from pfs import _tables as tables
-from pfs._calendar import needed, text_of
-from pfs._faults import TableFault
-from pfs._instance import Instance
-from pfs._names import shown
-from pfs._orders import moved, numbers_by_name
-from pfs._wording import as_controls
-from pfs._words import words_of
-from pfs._workbooks import MOST_ROWS, Workbook
+from pfs.base.faults import TableFault
+from pfs.base.languages import words_of
+from pfs.base.names import shown
+from pfs.base.wording import as_controls
+from pfs.base.workbooks import MOST_ROWS, Workbook
+from pfs.files import tables
+from pfs.plan.orders import moved, numbers_by_name
 from pfs.plan.plan import Plan, calendar_of
+from pfs.schedules.calendar import needed, text_of
+from pfs.shops.instance import Instance
 from pfs.web.apart import Wrong
 
 # The most times of a table, faults that are listed, and letters of a text.

@@ -55,7 +55,8 @@ class Run:
         except Exception as error:
             self.fault = error
         self.state = "done"
-        logging.info("search: %d jobs, %d machines, %d rounds", self.plan.shop.jobs, self.plan.shop.machines, self.rounds)
+        shop = self.plan.shop
+        logging.info("search: %d jobs, %d machines, %d rounds", shop.jobs, shop.machines, self.rounds)
 
     def told(self, place: int) -> dict[str, Any]:
         """How far it is. `place` is that in the queue."""

@@ -4,8 +4,8 @@ sessionStorage.setItem("token", token);
 history.replaceState(null, "", location.pathname);
 const MOST = 6e6, TOO_LARGE = tr("The table is too large: 6 MB are the most.");
 // The document, which survives a reload. What the server said of its table and of its plan, and the search that runs.
-const blank = name => ({name, delimiter: ",", rows: [], texts: null, machines: [], order: null, held: 0, least: 0, of: "",
-                        plans: [], seed: 0, controls: {}});
+const blank = name => ({name, delimiter: ",", rows: [], texts: null, machines: [], order: null, held: 0,
+                        least: 0, of: "", plans: [], seed: 0, controls: {}});
 let doc = blank(""), asked = 0, readings = 0, content, read, now, running;
 
 async function ask(path, body, method = body ? "POST" : "GET") {
@@ -163,8 +163,8 @@ function heldNow() {
   const jobs = new Set(read.shop.jobs);
   return (doc.order || []).slice(0, doc.held).filter(each => jobs.has(each)).length;
 }
-const plan = more => ({shop: read.shop, order: doc.order, held: heldNow(), least: doc.least, of: doc.of, calendar: calendar(),
-                       language, kept: doc.plans.map(each => each.order),
+const plan = more => ({shop: read.shop, order: doc.order, held: heldNow(), least: doc.least, of: doc.of,
+                       calendar: calendar(), language, kept: doc.plans.map(each => each.order),
                        title: byId("title").value || doc.name, ...more});
 byId("plan").onclick = doing(async () => {
   const {shop} = read, {rows} = doc;
