@@ -12,8 +12,8 @@ import numpy as np
 import pandas
 import pfs
 import pytest
-from pfs._causes import Causes, Stated
-from pfs._orders import order_in
+from pfs.audits.causes import Causes, Stated
+from pfs.plan.orders import order_in
 from pfs.experiments import ExperimentError
 from pfs.experiments.one import order_of
 from support import plainly

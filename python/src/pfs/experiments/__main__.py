@@ -10,8 +10,8 @@ import signal
 import sys
 from typing import Any
 
-from pfs._cli import CommandLine, ShowVersion, inches, number, run
-from pfs._optional import optional
+from pfs.base.optional import optional
+from pfs.commands.cli import CommandLine, ShowVersion, inches, number, run
 
 # Where the program is searched for: on the path, and in the folder of pfs-experiments.
 PROGRAMS = f"{os.environ.get('PATH', os.defpath)}:{os.path.dirname(os.path.abspath(sys.argv[0]))}"

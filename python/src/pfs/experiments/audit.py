@@ -6,14 +6,14 @@ import contextlib
 import pathlib
 from typing import Any
 
-from pfs._atomic import text_cell
-from pfs._audit import Audited, Shelf, audited_of
-from pfs._faults import Fault
-from pfs._files import read, read_order
-from pfs._instance import Instance
-from pfs.experiments import ExperimentError, csv_text, plain, stage
+from pfs.audits.audit import Audited, Shelf, audited_of
+from pfs.base.atomic import text_cell
+from pfs.base.faults import Fault
+from pfs.experiments import ExperimentError, csv_text, folders, plain
 from pfs.experiments.plan import Row
 from pfs.experiments.run import path_cell
+from pfs.files.instances import read, read_order
+from pfs.shops.instance import Instance
 
 
 def verdicts(table: Any, shops: Any, layout: str | None = None,
@@ -28,11 +28,11 @@ def verdicts(table: Any, shops: Any, layout: str | None = None,
 def audit(args: argparse.Namespace) -> int:
     """Audits a table of published orders. Prints each one that is wrong, unclear or below the reference, the sheets
     that are left out, and the numbers of orders; a CSV has the verdict on each."""
-    stage.check_output(args.csv, [args.table, *(args.instances.rglob("*") if args.instances else ())])
+    folders.check_output(args.csv, [args.table, *(args.instances.rglob("*") if args.instances else ())])
     found, left_out = verdicts(args.table, args.instances or (), args.layout, args.first)
     if args.csv:
         rows = [[text_cell(cell) if isinstance(cell, str) else cell for cell in row] for row in found]
-        stage.write_text(args.csv, csv_text([["line", *Audited._fields[1:]], *rows]))
+        folders.write_text(args.csv, csv_text([["line", *Audited._fields[1:]], *rows]))
     for row in found:
         if row.why:
             sheet, name = f"sheet {row.sheet}, " if row.sheet else "", f"{row.instance} {row.method}".strip()
@@ -52,7 +52,7 @@ def shops_of(path: str) -> dict[str, Instance]:
     """Returns the instances in the folder next to the CSV of an experiment, by their names there; none if the folder is
     missing, damaged or of another version."""
     with contextlib.suppress(ExperimentError, OSError, Fault):
-        experiment = stage.started(path)
+        experiment = folders.started(path)
         runs = {path_cell(run["instance"]): run for run in experiment.runs if run["jobs"]}
         return {name: read(experiment.folder / experiment.stage / run["file"], run["layout"], int(run["block"]))
                 for name, run in runs.items()}

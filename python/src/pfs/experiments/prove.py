@@ -6,13 +6,13 @@ import json
 import sys
 
 import pfs
-from pfs.experiments import ExperimentError, plain, run, stage
+from pfs.experiments import ExperimentError, folders, plain, run
 from pfs.experiments.plan import Row, rows_of
 
 
 def prove(args: argparse.Namespace) -> int:
     """Proves a bound for each instance of a CSV, and adds the column `proved_bound` to it."""
-    experiment = stage.started(args.csv)
+    experiment = folders.started(args.csv)
     copies = {run.path_cell(each["instance"]): each for each in experiment.runs}
     found, best, count = run.proofs_of(experiment.folder), dict[str, Row](), 0
     try:
@@ -25,7 +25,7 @@ def prove(args: argparse.Namespace) -> int:
             shop = pfs.read(experiment.folder / experiment.stage / own["file"], own["layout"], int(own["block"]))
             made = shop.optimum(args.seconds, start=pfs.read_order(experiment.folder.parent / row["order"]))
             bound = found[own["instance"]] = max(found.get(own["instance"], made.bound), made.bound)
-            stage.write_text(experiment.folder / run.PROOFS, json.dumps(found))
+            folders.write_text(experiment.folder / run.PROOFS, json.dumps(found))
             is_optimal = int(row["makespan"]) == bound
             count += is_optimal
             print(plain(f"{name}: {row['makespan']}, {'optimal' if is_optimal else f'no order is below {bound}'}"),

@@ -19,13 +19,13 @@ import pandas as pd
 from matplotlib.figure import Figure
 from matplotlib.ticker import NullLocator
 
-from pfs._atomic import atomic_write, text_cell
-from pfs._benchmarks import canonical, taillard_rows
-from pfs._drawing import picture_of
+from pfs.base.atomic import atomic_write, text_cell
+from pfs.base.benchmarks import canonical, taillard_rows
 from pfs.experiments import ExperimentError, csv_text, listed, plain, statistics
+from pfs.experiments.folders import check_output, write_text
 from pfs.experiments.plan import MOST_MAKESPAN, reference_for, reference_of, rows_of
-from pfs.experiments.stage import check_output, write_text
 from pfs.experiments.statistics import SETTING, SIZE, setting_names, size_name
+from pfs.schedules.drawing import picture_of
 
 # The tables that are written as CSV.
 TABLES = ("table", "instances", "best", "comparison", "ranks", "sizes")

@@ -19,10 +19,10 @@ import subprocess
 import sys
 from collections.abc import Container, Iterator
 
-from pfs._atomic import FORMULA, text_cell
-from pfs.experiments import ExperimentError, csv_text, one, plain, stage
+from pfs.base.atomic import FORMULA, text_cell
+from pfs.experiments import ExperimentError, csv_text, folders, one, plain
+from pfs.experiments.folders import Experiment, prepare, write_text
 from pfs.experiments.plan import Reference, Row, reference_for, rows_of
-from pfs.experiments.stage import Experiment, prepare, write_text
 
 COLUMNS = ["instance", "jobs", "machines", "rounds", "take", "passes", "seed", "repetition",
            "makespan", "bound", "gap_percent", "cells", "seconds", "status", "order", "reference", "source"]
@@ -76,7 +76,7 @@ def together(left: list[Row]) -> list[list[Row]]:
     in their time."""
     groups: dict[tuple[str, ...], list[Row]] = {}
     for run in left:
-        same = [column for column in stage.KEY if column != "time_factor"]
+        same = [column for column in folders.KEY if column != "time_factor"]
         key = tuple(run[column] for column in same) if run["anytime"] and run["limit"] else (run["number"],)
         groups.setdefault(key, []).append(run)
     return [sorted(runs, key=lambda run: -float(run["limit"] or 0)) for runs in groups.values()]
@@ -86,7 +86,7 @@ def run(args: argparse.Namespace) -> int:
     """Makes the runs that are left with GNU parallel, by default one per core at a time, and writes the CSV. The files
     of results have new names at each start, so no process of an earlier start writes into one of a later start."""
     experiment, runs = begin(args, "parallel", "parallel")
-    auditors = [experiment.folder / experiment.stage / name for name in stage.OWN]
+    auditors = [experiment.folder / experiment.stage / name for name in folders.OWN]
     before = [path.read_bytes() for path in auditors]
     machines = args.sshloginfile
     if machines and os.path.isfile(machines):
@@ -230,12 +230,12 @@ def path_cell(path: str) -> str:
 
 def status(args: argparse.Namespace) -> int:
     """Writes the CSV of the runs that have ended so far, while the others continue."""
-    return 1 if any(gather(stage.started(args.csv), args.csv)) else 0
+    return 1 if any(gather(folders.started(args.csv), args.csv)) else 0
 
 
 def gather(experiment: Experiment, csv_path: str) -> tuple[int, int]:
     """Writes the CSV, one process at a time, so that no later one has fewer runs."""
-    held = stage.opened(experiment.folder / "csv.lock")
+    held = folders.opened(experiment.folder / "csv.lock")
     try:
         fcntl.flock(held, fcntl.LOCK_EX)
         return write_csv(experiment, csv_path)
@@ -324,7 +324,7 @@ def check(args: argparse.Namespace) -> int:
     """Audits each order of a CSV again, with the copies of the instances next to it, and compares the output with the
     CSV. Prints each wrong row, and the number of orders."""
     rows = [row for row in rows_of(args.csv, NEEDED) if row["status"] == "ok"]
-    experiment, program = stage.started(args.csv), stage.find_pfs(args.pfs)
+    experiment, program = folders.started(args.csv), folders.find_pfs(args.pfs)
     listed = {same({**run, "instance": path_cell(run["instance"]), "method": text_cell(run["method"])}): run
               for run in experiment.runs}
     count = 0
