@@ -268,8 +268,8 @@ def test_jobs_that_were_exchanged() -> None:
         one, other = min(pairs, key=lambda pair: pair[1] - pair[0])
         more = texts[1].format(len(pairs) - 1, "s" if len(pairs) > 2 else "") if len(pairs) > 1 else ""
         found = told([row("ta001", ORDER, span)])
-        if not any(word in found[-1] for word in ("reversed", "places of", "best known", "machines exchanged", "without",
-                                                  "starts", "rounded", "digits")):
+        certain = "reversed", "places of", "best known", "machines exchanged", "without", "starts", "rounded", "digits"
+        if not any(word in found[-1] for word in certain):
             assert found[-1] == texts[0].format(one + 1, other + 1, span) + more
             checked += 1
     assert checked > 20

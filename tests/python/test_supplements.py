@@ -138,7 +138,8 @@ def in_csv(methods: dict[str, list[Planted]], folder: pathlib.Path, chance: rand
             chance.choice(["Job sequence", "Schedule", "Best solution", "Reihenfolge"]), "Algorithm", "CPU"]
     with open(folder / "table.csv", "w", newline="") as file:
         writer = csv.writer(file, delimiter=delimiter)
-        writer.writerows([["Supplementary results"], [], ["Date", "1 December"]][:chance.randrange(4)])
+        for line in ["Supplementary results"], ["Size", "n", "m"], ["Date", "1 December"]:
+            writer.writerows([line] * (chance.random() < 0.5))
         writer.writerow(head)
         writer.writerows([row.name, row.stated, text_of(row.order, chance), method, "0.5"]
                          for method, rows in methods.items() for row in rows)
@@ -150,18 +151,20 @@ def side_by_side(methods: dict[str, list[Planted]], folder: pathlib.Path, chance
     with open(folder / "wide.csv", "w", newline="") as file:
         writer = csv.writer(file, delimiter=";")
         if chance.random() < 0.5:
-            writer.writerow(["No.", "Instance", *(f"{text} {method}" for method in methods for text in ("Cmax", "Sequence"))])
+            names = (f"{text} {method}" for method in methods for text in ("Cmax", "Sequence"))
+            writer.writerow(["No.", "Instance", *names])
         else:
             writer.writerow(["", "", *(cell for method in methods for cell in (method, ""))])
             writer.writerow(["No.", "Instance", *["Cmax", "Sequence"] * len(methods)])
         for at, rows in enumerate(zip(*methods.values()), 1):
-            writer.writerow([at, rows[0].name, *(cell for row in rows for cell in (row.stated, text_of(row.order, chance)))])
+            cells = (cell for row in rows for cell in (row.stated, text_of(row.order, chance)))
+            writer.writerow([at, rows[0].name, *cells])
     return folder / "wide.csv"
 
 
 def in_workbook(methods: dict[str, list[Planted]], folder: pathlib.Path, chance: random.Random) -> pathlib.Path:
     """A sheet for each method, below a title; or one, with the instances merged over the methods and a job a column."""
-    book = openpyxl.Workbook()
+    book: Any = openpyxl.Workbook()
     if chance.random() < 0.5:
         for method, rows in methods.items():
             sheet = book.create_sheet(method)
@@ -174,8 +177,8 @@ def in_workbook(methods: dict[str, list[Planted]], folder: pathlib.Path, chance:
     else:
         sheet, most = book.active, max(len(row.order) for rows in methods.values() for row in rows)
         sheet.append(["Problem", "Method", "Cmax", *range(1, most + 1)])
-        for at, rows in enumerate(zip(*methods.values())):
-            for turn, (method, row) in enumerate(zip(methods, rows)):
+        for at, beside in enumerate(zip(*methods.values())):
+            for turn, (method, row) in enumerate(zip(methods, beside)):
                 sheet.append([row.name if turn == 0 else None, method, row.stated, *row.order])
             sheet.merge_cells(start_row=2 + at * len(methods), end_row=1 + (at + 1) * len(methods), start_column=1,
                               end_column=1)
@@ -192,7 +195,8 @@ def in_latex(methods: dict[str, list[Planted]], folder: pathlib.Path, chance: ra
             first = rf"\multirow{{{len(methods)}}}{{*}}{{{name}}}" if turn == 0 else ""
             stated = f"{row.stated // 1000}\\,{row.stated % 1000:03}" if row.stated > 999 else str(row.stated)
             stated = chance.choice([stated, rf"\textbf{{{stated}}}", f"${stated}$"])
-            lines.append(rf"{first} & \emph{{{method}}} & {stated} & ${chance.choice([', ', ' - ']).join(map(str, row.order))}$ \\")
+            order = chance.choice([", ", " - "]).join(map(str, row.order))
+            lines.append(rf"{first} & \emph{{{method}}} & {stated} & ${order}$ \\")
         lines.append(r"\hline % a line")
     (folder / "paper.tex").write_text("\n".join([*lines, r"\end{tabular}\end{table}"]))
     return folder / "paper.tex"
@@ -277,7 +281,7 @@ def test_names_of_taillard(name: str, tmp_path: pathlib.Path) -> None:
 
 
 def test_names_of_other_benchmarks(tmp_path: pathlib.Path) -> None:
-    """A benchmark's name decides; without it, an instance of the folder comes before Taillard's, and two are unclear."""
+    """A benchmark's name decides. Without it, an instance of the folder comes before Taillard's; two are unclear."""
     folder = tmp_path / "shops"
     folder.mkdir()
     shops = {name: pfs.generate(3, 2, at) for at, name in enumerate(("VFR3_2_1_Gap", "own_3_2_2", "VFR3_2_2_Gap"), 1)}
@@ -324,7 +328,8 @@ def test_methods_side_by_side_that_lack_a_column(tmp_path: pathlib.Path) -> None
 
 
 def test_an_empty_cell_has_the_instance_above_where_that_is_right(tmp_path: pathlib.Path) -> None:
-    rows = audited("Problem,Method,Cmax,Order\nsmall,a,10,2 1 3\n,b,11,1 2 3\n,c,12,1 2 3\nsmall,d,12,1 2 3\n", tmp_path)
+    rows = audited("Problem,Method,Cmax,Order\nsmall,a,10,2 1 3\n,b,11,1 2 3\n,c,12,1 2 3\nsmall,d,12,1 2 3\n",
+                   tmp_path)
     assert [row[3] for row in rows] == ["valid and optimal", "valid", "unclear", "wrong makespan"]
     assert rows[2][4].startswith("cell A4: there is no instance, and with that of line 2 the row is wrong: wrong makes")
 
@@ -372,8 +377,8 @@ def test_a_folder_and_an_archive(tmp_path: pathlib.Path) -> None:
             found = pfs.audit(table, [SMALL])
         verdicts = {(each.sheet.removeprefix("../"), each.verdict): (each.method, each.stated) for each in found}
         assert verdicts == {("IG/small.txt", "valid and optimal"): ("IG", 10), ("IG/other.txt", "unclear"): ("IG", 9),
-                            ("small.dat", "valid, no makespan"): ("", None), ("Small.sol", "valid and optimal"): ("", 10),
-                            ("table.csv", "wrong makespan"): ("", 11)}
+                            ("small.dat", "valid, no makespan"): ("", None),
+                            ("Small.sol", "valid and optimal"): ("", 10), ("table.csv", "wrong makespan"): ("", 11)}
         texts = sorted(str(each.message).replace("../", "") for each in said)
         assert [text.split(" is left out: ")[0] for text in texts] == [
             f"the file '{name}'" for name in ("bad.csv", "latin.txt", "none.txt", "small.two", "x.md")]
@@ -386,11 +391,12 @@ def test_a_folder_and_an_archive(tmp_path: pathlib.Path) -> None:
 def test_rpds_and_means(tmp_path: pathlib.Path) -> None:
     """Against the table's reference or the best known makespan; numbers are right if they are rounded right. A share is
     a percentage."""
-    rows = audited("Problem;Cmax;RPD;Ref;Order\nsmall;11;10.0 %;10;1 2 3\nsmall;10;0,00;;2 1 3\nsmall;11;10.1;10;1 2 3\n"
-                   "Average;10.67;6.7;;\nsmall;11;37.5;8;1 2 3\nsmall;11;0.0999;10;1 2 3\nsmall;11;0.1000;;1 2 3\n"
+    rows = audited("Problem;Cmax;RPD;Ref;Order\nsmall;11;10.0 %;10;1 2 3\nsmall;10;0,00;;2 1 3\n"
+                   "small;11;10.1;10;1 2 3\nAverage;10.67;6.7;;\nsmall;11;37.5;8;1 2 3\nsmall;11;0.0999;10;1 2 3\n"
+                   "small;11;0.1000;;1 2 3\n"
                    "Mean;11;19.2;;\nMittelwert:;10.8;;;\nAvg;10.9;;;\n", tmp_path)
-    assert [row[3] for row in rows] == ["valid", "valid and optimal", "wrong RPD", "mean", "valid", "wrong RPD", "valid",
-                                        "mean", "mean", "wrong mean"]
+    assert [row[3] for row in rows] == ["valid", "valid and optimal", "wrong RPD", "mean", "valid", "wrong RPD",
+                                        "valid", "mean", "mean", "wrong mean"]
     assert rows[2][4] == "RPD against 10: states 10.1, is 10.00"
     assert rows[9][4] == "cell B11: the mean: states 10.9, is 10.83"
     # Without a reference none is audited.
@@ -415,13 +421,14 @@ def test_the_command_says_how_it_reads_and_counts_figures(tmp_path: pathlib.Path
     pathlib.Path("t.csv").write_text("Title\nProblem,C,1,2,3,RPD\nsm\x1b[31mall,11,1,2,3,9.9\nx\x1b[2J,1,1,2,3,\n")
     assert run("t.csv --instances shops --column makespan=C --dry-run") == 0
     assert capsys.readouterr().out == (
-        "2 rows: names in line 2, instance in column A 'Problem', makespan in column B 'C', order in columns C to E '1', "
-        "rpd in column F 'RPD'\n"
+        "2 rows: names in line 2, instance in column A 'Problem', makespan in column B 'C', order in columns C to E "
+        "'1', rpd in column F 'RPD'\n"
         "instance 'sm\\x1b[31mall': sm\\x1b[31mall.txt 1, 3 jobs on 2 machines\n"
         "instance 'x\\x1b[2J': no instance 'x\\x1b[2J'\n")
     assert run("t.csv --instances shops --column makespan=C") == 1
     assert capsys.readouterr().out.splitlines()[-1] == (
-        "t.csv: 1 orders audited, 1 valid (0 optimal), 0 wrong; 1 row is unclear, and not audited; 1 RPD or mean is wrong")
+        "t.csv: 1 orders audited, 1 valid (0 optimal), 0 wrong; 1 row is unclear, and not audited; 1 RPD or mean is "
+        "wrong")
     for option in ("makespan", "span=C", "makespan=", "makespan=C --column makespan=D"):
         with pytest.raises(pfs.experiments.ExperimentError, match="write ROLE=NAME once for a role: instance, "):
             run(f"t.csv --column {option}")

@@ -48,7 +48,8 @@ class Figures:
             return ""
         value = 100 * (stated - least) / least
         seen["rpd"].append((rpd.value, value))
-        return "" if rpd.fits(value) else f"RPD against {least:g}: states {rpd.text}, is {value:.{max(rpd.decimals, 2)}f}"
+        digits = max(rpd.decimals, 2)
+        return "" if rpd.fits(value) else f"RPD against {least:g}: states {rpd.text}, is {value:.{digits}f}"
 
     def faults_of_means(self, given: Given, texts: Mapping[str, str]) -> list[tuple[str, str]]:
         """Return the columns whose mean is wrong: neither that of all rows above nor of those since the last one."""

@@ -91,7 +91,7 @@ class Shelf:
         any if it has none, or else of Taillard's."""
         benchmark, *size = sized(key) or ("", 0, 0, 0)
         lists = self.by_size.get((size[0], size[1], size[2]), {})
-        known = lists.get(benchmark, []) or ([each for same in lists.values() for each in same] if not benchmark else [])
+        known = [each for other, same in lists.items() if benchmark in ("", other) for each in same]
         own = [number for number, row in enumerate(taillard_rows(), 1) if [*row[1:3]] == size[:2]]
         if not known and benchmark in ("", "ta", "tai") and 0 < size[2] <= len(own):
             return [(taillard(own[size[2] - 1]), "")]

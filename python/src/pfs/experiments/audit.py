@@ -62,9 +62,10 @@ def audit(args: argparse.Namespace) -> int:
     orders = [row for row in found if row.verdict not in ("mean", "wrong mean")]
     valid, unclear = [row for row in orders if row.valid], sum(row.verdict == "unclear" for row in orders)
     optimal, wrong = sum(row.makespan == row.bound for row in valid), len(orders) - len(valid) - unclear
-    print(plain(f"{args.table}: {len(orders) - unclear} orders audited, {len(valid)} valid ({optimal} optimal), {wrong} "
-                "wrong") + (f"; {unclear} row{'s are' if unclear > 1 else ' is'} unclear, and not audited" if unclear
-                            else "") + (f"; {figures} RPD{'s or means are' if figures > 1 else ' or mean is'} wrong" if figures else ""))
+    print(plain(f"{args.table}: {len(orders) - unclear} orders audited, {len(valid)} valid ({optimal} optimal), "
+                f"{wrong} wrong")
+          + (f"; {unclear} row{'s are' if unclear > 1 else ' is'} unclear, and not audited" if unclear else "")
+          + (f"; {figures} RPD{'s or means are' if figures > 1 else ' or mean is'} wrong" if figures else ""))
     return 1 if wrong or figures else 2 if unclear else 0
 
 
@@ -87,10 +88,11 @@ def print_understood(args: argparse.Namespace, columns: Mapping[str, str]) -> in
                     + (", ".join(head) if given.line else "an order of the instance that the file names")))
         for row in rows:
             if isinstance(row, (AuditedRow, Unclear)) and row.shop:
-                names[row.instance] = f"{row.shop.name or row.instance}, {row.shop.jobs} jobs on {row.shop.machines} machines"
+                shop = row.shop
+                names[row.instance] = f"{shop.name or row.instance}, {shop.jobs} jobs on {shop.machines} machines"
             elif isinstance(row, Unclear):
-                names.setdefault(row.instance, next((text for role, text in row.faults if role in ("instance", "number")),
-                                                    "unclear"))
+                faults = (text for role, text in row.faults if role in ("instance", "number"))
+                names.setdefault(row.instance, next(faults))
     for name, text in names.items():
         print(plain(f"instance {name!r}: {text}"))
     for text in left_out:
