@@ -3,6 +3,7 @@ from __future__ import annotations
 
 import argparse
 import contextlib
+import math
 import os
 import pathlib
 from collections.abc import Iterable, Mapping
@@ -117,12 +118,13 @@ def shops_of(path: str) -> dict[str, Instance]:
     return {}
 
 
-def orders_of(rows: list[Row]) -> list[str]:
+def orders_of(rows: list[Row]) -> tuple[list[str], list[float]]:
     """Returns the order of each row of CSVs that has one and whose instance is at hand, next to one of the CSVs or as
-    one of Taillard's; an empty text for the others. A wrong order is an error. Rows have the columns `path` and `line`,
-    and no makespan if the run failed."""
+    one of Taillard's; an empty text for the others. And the bound of each such instance, which is NaN for the others. A
+    wrong order is an error. Rows have the columns `path` and `line`, and no makespan if the run failed."""
     own = {path: shops_of(path) for path in dict.fromkeys(row["path"] for row in rows)}
     shelf, shops, orders, table = Shelf((), None), dict[str, Instance](), [""] * len(rows), []
+    bounds = [math.nan] * len(rows)
     for name, shop in (each for found in own.values() for each in found.items()):
         shelf.add(shop, name)
     for at, row in enumerate(rows):
@@ -136,10 +138,11 @@ def orders_of(rows: list[Row]) -> list[str]:
             table.append({"instance": str(at), "method": f"{row['path']} {row['method']}", "order": orders[at],
                           "makespan": row["makespan"]})
     for each in verdicts(table, shops)[0]:
+        bounds[int(each.instance)] = each.bound or 0
         if not each.valid:
             row = rows[int(each.instance)]
             raise ExperimentError(f"{row['path']}: line {row['line']}, {row['instance']}: {each.verdict}: {each.why}")
-    return orders
+    return orders, bounds
 
 
 def order_of(path: str, cell: str) -> str:
