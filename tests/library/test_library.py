@@ -11,6 +11,7 @@ from typing import Any
 
 import fuzz
 import pytest
+from pfs.binding.rounds import TIES
 from support import second_library, second_program
 from support.growths import Shim
 from support.library import (HEADER, SUPPORT, Library, Memory, Number, compile_quietly, compiled, list32,
@@ -51,6 +52,10 @@ def defined() -> dict[str, int]:
     return {name: int(value) for name, value in found}
 
 
+# The rules for equally good places.
+RULES = {name.removeprefix("PFS_TIES_").lower(): value for name, value in defined().items() if "_TIES_" in name}
+
+
 def test_the_numbers_are_those_of_the_crate(top: pathlib.Path) -> None:
     """The limits are in test_limits.py."""
     source = (top / "crates" / "pfs_c" / "src" / "numbers.rt").read_text()
@@ -58,8 +63,9 @@ def test_the_numbers_are_those_of_the_crate(top: pathlib.Path) -> None:
     for name, value in re.findall(r"^    (\w+) = (\d+),$", source, re.MULTILINE):
         macro = "PFS" + re.sub("([A-Z])", r"_\1", name).upper()
         assert numbers.setdefault(macro, int(value)) == int(value), macro
+    assert RULES == TIES, "the rules of the package"
     answered = {name: value for name, value in defined().items()
-                if not re.match("PFS_(MOST|LONGEST)_|PFS_(TAILLARD|ORLIB|TIES_FIRST|TIES_IDLE|VERSION_NUMBER)$", name)}
+                if not re.match("PFS_(MOST|LONGEST)_|PFS_(TAILLARD|ORLIB|TIES_[A-Z]+|VERSION_NUMBER)$", name)}
     assert answered == numbers
     assert sorted(answered.values()) == [*range(18), *range(20, 29), *range(30, 34)]
 
@@ -307,7 +313,7 @@ def searches(random: Random, shop: Instance) -> list[Call]:
     first = random.choice([0, 0, 1, 7, second_program.MOST_JOBS])
     count, length = random.choice([0, 1, 2, 8, 9, 33]), random.randint(0, shop.jobs)
     sequences = [job for _ in range(count) for job in random.sample(jobs, length)]
-    ties = Number(random.randint(0, second_library.MOST_TIES), 32)
+    ties = Number(random.choice([*RULES.values()]), 32)
     return [
         ("pfs_sizes", [*given(shop), out64(), out64()]),
         ("pfs_faulty_job", [*given(shop), *list32(some), out64()]),

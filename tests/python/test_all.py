@@ -15,7 +15,7 @@ from typing import Any
 import numpy as np
 import pfs
 import pytest
-from pfs import _search
+from pfs.shops import search as _search
 from support import plainly
 
 SHOPS = [pfs.generate(8, 3, 1), pfs.generate(9, 2, 2), pfs.generate(8, 3, 1)]

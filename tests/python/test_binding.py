@@ -21,8 +21,8 @@ from unittest import mock
 import numpy as np
 import pfs
 import pytest
-from pfs import _library
-from pfs._faults import INSTANCE_FAULTS
+from pfs.binding import library as _library
+from pfs.base.faults import INSTANCE_FAULTS
 from support import plainly
 from support.needs import tool
 from support.tools import TOP
@@ -30,7 +30,7 @@ from support.tools import TOP
 # The numbers of preparations and of releases so far.
 Counts = Callable[[], list[int]]
 MAJOR = int(pfs.__version__.split(".")[0])
-LOADING = "import pfs, pfs._library; print(pfs._library.PATH, pfs.__version__)"
+LOADING = "import pfs, pfs.binding.library; print(pfs.binding.library.PATH, pfs.__version__)"
 
 
 def library_of(version: str, folder: pathlib.Path, without: str = "") -> pathlib.Path:
@@ -79,7 +79,7 @@ def test_a_library_without_a_function_and_a_file_that_is_none_are_rejected(tmp_p
 def test_the_library_that_the_variable_names_goes_before_the_packages(monkeypatch: pytest.MonkeyPatch,
                                                                      tmp_path: pathlib.Path) -> None:
     """Then the one in the package, as a wheel has it, and then the system's."""
-    monkeypatch.setattr(_library, "__file__", str(tmp_path / "_library.py"))
+    monkeypatch.setattr(_library, "__file__", str(tmp_path / "binding" / "library.py"))
     monkeypatch.delenv("PFS_LIBRARY", raising=False)
     assert _library.path_of_library() == "libpfs.so.1"
     with pytest.raises(ImportError, match="set PFS_LIBRARY to the path of"):
@@ -118,7 +118,7 @@ def test_the_numbers_limits_and_functions_are_those_of_the_header() -> None:
 
 def test_modules_that_need_no_library_are_imported_without_one(tmp_path: pathlib.Path) -> None:
     """Those that draw a time table, and those of experiments. A name of the package says what is missing."""
-    code = ("import pfs, pfs._gantt, pfs.experiments.__main__\n"
+    code = ("import pfs, pfs.commands.gantt, pfs.experiments.__main__\n"
             "from pfs.experiments import plan, run\nprint(pfs.__version__)\npfs.Instance\n")
     done = plainly.python("-c", code, cwd=tmp_path, PFS_LIBRARY="/none")
     assert done.stdout == f"{pfs.__version__}\n", done.stderr
@@ -241,7 +241,7 @@ def test_a_forked_process_prepares_its_own_instance() -> None:
 def test_nothing_is_printed_when_python_ends_with_an_instance(tmp_path: pathlib.Path) -> None:
     """Also where the names of the module are gone before."""
     script = "import pfs; shop = pfs.taillard(1); pfs.kept = [shop, shop.solve(1)]; print(shop.bound()); " \
-             "pfs._library.Prepared = pfs._library.library = None"
+             "import pfs.binding.library as own; own.Prepared = own.library = None"
     done = plainly.python("-c", script, cwd=tmp_path)
     assert (done.stdout, done.stderr, done.returncode) == ("1232\n", "", 0)
 

@@ -11,7 +11,7 @@ from collections.abc import Iterator
 
 import numpy as np
 import pytest
-from pfs import _library
+from pfs.binding import library as _library
 from support.needs import tool
 from support.tools import TOP
 
@@ -103,7 +103,7 @@ def test_the_rules_of_numpy_2() -> None:
 PLANTED = """
 import ctypes
 import numpy
-from pfs import _library
+from pfs.binding import library as _library
 times = numpy.full({size}, 1, numpy.uint32)
 handle = _library.Handle()
 print(_library.library.pfs_prepare(times.ctypes.data, 200, 20, 10, ctypes.byref(handle)), flush=True)

@@ -12,7 +12,7 @@ import pfs
 import pytest
 from hypothesis import assume, given
 from hypothesis import strategies as st
-from pfs._calendar import Clock
+from pfs.schedules.calendar import Clock
 
 DAY = datetime.timedelta(days=1)
 DAYS = ["mon", "tue", "wed", "thu", "fri", "sat", "sun"]

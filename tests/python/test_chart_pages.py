@@ -13,8 +13,8 @@ from unittest import mock
 
 import pfs
 import pytest
-from pfs import _chart, _drawing
-from pfs._calendar import Clock
+from pfs.schedules import chart as _chart, drawing as _drawing
+from pfs.schedules.calendar import Clock
 from support.browser import PEN, all_looked_at, looked_at, printed, scripted
 from support.colours import contrast, hexadecimal
 from support.needs import tool
@@ -702,7 +702,7 @@ def test_what_can_be_printed_and_listed(pages: dict[str, Any]) -> None:
 
 # The selector of each rule, and what it sets.
 STYLE = [(selector.strip(), re.findall(r"(?:^|;)\s*([-\w]+):", body)) for selector, body in re.findall(
-    r"([^{}]+)\{([^{}]*)\}", pathlib.Path(_chart.__file__).with_name("chart.html").read_text("utf-8").partition(
+    r"([^{}]+)\{([^{}]*)\}", pathlib.Path(pfs.__file__).with_name("chart.html").read_text("utf-8").partition(
         "<style>")[2].partition("</style>")[0])]
 STYLED = f"const STYLE = {json.dumps(STYLE)};" + """
 function all(selector, found) { return [...document.querySelectorAll(selector)].map(found); }

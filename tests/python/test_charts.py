@@ -13,7 +13,7 @@ from xml.etree import ElementTree
 import numpy as np
 import pfs
 import pytest
-from pfs import _chart, _drawing
+from pfs.schedules import chart as _chart, drawing as _drawing
 from test_chart_pages import LENGTHS, MACHINES, NAMES, ORDER, TIMES, plan
 
 matplotlib = pytest.importorskip("matplotlib")

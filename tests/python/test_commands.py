@@ -19,8 +19,14 @@ from typing import Any
 
 import pfs
 import pytest
-from pfs import _commands, _library, _rounds, _search, _state, _wording
-from pfs._cli import Misused, version
+from pfs.commands import main as _commands
+from pfs.binding import library as _library, rounds as _rounds
+from pfs.shops import search as _search
+from pfs.files import state as _state
+from pfs.base import wording as _wording
+from pfs.commands.cli import Misused, version
+from pfs.plan import plan
+from pfs.plan.plan import Limits
 from support import plainly
 from support.commands import ended, without_summary
 from support.plainly import environment
@@ -187,13 +193,13 @@ def test_a_state_is_for_the_options_of_its_search(folder: pathlib.Path, before: 
     ([*LONG, "--start", "/dev/zero"], "pfs: order file too long\n"),
     *(([*LONG, "--state", path], f"pfs: {path}: not the state of a search: longer than 67,108,864 bytes\n")
       for path in ("/dev/full", "/dev/zero", "long")),
-    *((["pfs._gantt", path, "picture.svg"], "pfs-gantt: not a time table: longer than 67,108,864 bytes\n")
+    *((["pfs.commands.gantt", path, "picture.svg"], "pfs-gantt: not a time table: longer than 67,108,864 bytes\n")
       for path in ("/dev/zero", "long"))])
 def test_files_without_end(folder: pathlib.Path, words: list[str], error: str) -> None:
     """Less memory is taken than the file would need."""
     with open(folder / "long", "wb") as file:
         file.truncate(67_108_865)
-    words = words if words[0] == "pfs._gantt" else ["pfs", *words]
+    words = words if words[0] == "pfs.commands.gantt" else ["pfs", *words]
     child = subprocess.run(["prlimit", "--as=4000000000", sys.executable, "-m", *words], cwd=folder, env=environment(),
                            capture_output=True, text=True, timeout=60)
     assert (child.returncode, child.stdout, child.stderr) == (2, "", error)
@@ -308,13 +314,17 @@ def test_the_time_that_is_left(monkeypatch: pytest.MonkeyPatch, limit: float | N
 
 
 def test_the_progress_of_a_proof(monkeypatch: pytest.MonkeyPatch) -> None:
-    lines, asked = list[str](), list[Any]()
-    search, call = _search.Search(pfs.taillard(1), None, 0, None, 0, 0), getattr(_commands, "proved_for")
-    monkeypatch.setattr(_commands, "proved", lambda *given: asked.append((*given[:3], given[3]())))
-    monkeypatch.setattr(_commands, "time", types.SimpleNamespace(monotonic=iter([7.0, 7.0, 9.0]).__next__))
+    lines, search = list[str](), _search.Search(pfs.taillard(1), None, 0, None, 0, 0)
+
+    def run(_: Any, limits: Limits, *, stop: Any, watch: Callable[[float], bool]) -> Any:
+        return watch(limits.prove), stop.is_set(), search.last
+
     monkeypatch.setattr(_commands.ProgressLine, "show", lambda _, line: lines.append(line))
-    assert call(5, search, "best", [2]) == (None, None) and asked == [(search.shop, "best", 5, True)]
-    assert lines == ["proving that no order is shorter, 0:00:03 left", ""]
+    for caught in (list[int](), [2]):
+        got: Any = _commands.searched(run, search, Limits(None, None, 2.5), caught)
+        assert got == ((bool(caught), bool(caught), None), None), "the search begins before it is asked for"
+        assert lines == ["proving that no order is shorter, 0:00:03 left", ""]
+        lines.clear()
 
 
 @pytest.mark.parametrize(("ending", "takes"), [
@@ -335,18 +345,15 @@ def asked(folder: pathlib.Path, monkeypatch: pytest.MonkeyPatch, words: list[str
     """What a command line asks for, which is not searched."""
     found: dict[str, Any] = {}
 
-    def searched(search: Any, rounds: int | None, seconds: float | None, *more: Any) -> tuple[pfs.Solution, None]:
+    def searched(search: Any, rounds: int | None, _: Any, seconds: float | None, **more: Any) -> pfs.Solution:
         found.update(take=search.take, passes=search.passes, seed=search.seed, rounds=rounds, seconds=seconds,
-                     block=search.shop.to_text(), prove=0, first=search.first, early=[*more, 0][2],
+                     block=search.shop.to_text(), prove=more.get("prove"), first=search.first, early=more.get("early"),
                      method="iterated-greedy" if search.more and search.more.partial else "solve")
-        return search.solution(), None
+        best: pfs.Solution = search.solution()
+        return best
 
-    def proved_for(seconds: float, _: Any, best: pfs.Solution, __: Any) -> tuple[pfs.Solution, None]:
-        found.update(prove=seconds)
-        return best, None
-
-    monkeypatch.setattr(_commands, "searched", searched)
-    monkeypatch.setattr(_commands, "proved_for", proved_for)
+    for module in (_commands, plan):
+        monkeypatch.setattr(module, "solve_and_prove", searched)
     monkeypatch.chdir(folder)
     assert _commands.main(words) == 0
     return found
@@ -910,7 +917,7 @@ def test_words_that_a_terminal_would_take_for_commands(folder: pathlib.Path, wor
 # The console program pfs-plan
 
 # As the wheel's and the package's scripts call it.
-CALL = "import sys; sys.argv[0] = 'pfs-plan'; from pfs._commands import plan_program; sys.exit(plan_program())"
+CALL = "import sys; sys.argv[0] = 'pfs-plan'; from pfs.commands.main import plan_program; sys.exit(plan_program())"
 CHAIRS = "job [min],saw,drill\nchair,3,2\ntable,2,5\n"
 
 
@@ -953,7 +960,7 @@ def test_an_experiment_needs_a_command(tmp_path: pathlib.Path) -> None:
 
 
 @pytest.mark.parametrize("words", [["-m", "pfs", "plan", "times.csv", "--chart", "made.png"],
-                                   ["-m", "pfs._gantt", "table", "made.png"]])
+                                   ["-m", "pfs.commands.gantt", "table", "made.png"]])
 def test_settings_of_matplotlib_in_the_current_folder_change_no_picture(tmp_path: pathlib.Path,
                                                                         words: list[str]) -> None:
     pytest.importorskip("matplotlib")

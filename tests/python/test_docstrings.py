@@ -18,10 +18,11 @@ from support.tools import TOP
 
 PAGE = TOP / "python" / "README.md"
 PLAN = TOP / "docs" / "PLAN.md"
-MODULES = sorted(module.name for module in pkgutil.iter_modules(pfs.__path__) if module.name != "__main__")
+MODULES = sorted(module.name for module in pkgutil.walk_packages(pfs.__path__, "pfs.")
+                 if not module.name.startswith(("pfs.web", "pfs.experiments", "pfs.__main__")))
 
 
-@pytest.mark.parametrize("name", ["pfs", *(f"pfs.{module}" for module in MODULES)])
+@pytest.mark.parametrize("name", ["pfs", *MODULES])
 def test_docstrings(name: str) -> None:
     assert doctest.testmod(importlib.import_module(name), extraglobs={"pfs": pfs}).failed == 0
 

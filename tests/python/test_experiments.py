@@ -20,9 +20,9 @@ from unittest import mock
 import pfs
 import pytest
 from hypothesis import given, strategies
-from pfs import _library, _rounds
-from pfs._rounds import Rounds
-from pfs.experiments import ExperimentError, one, plan, run, stage
+from pfs.binding import library as _library, rounds as _rounds
+from pfs.binding.rounds import Rounds
+from pfs.experiments import ExperimentError, folders, one, plan, run
 from support import plainly
 from support.experiments import HALF, HEAD, PLAN, Experiment
 from support.files import THREE_JOBS
@@ -49,10 +49,10 @@ def assert_refused(got: Done, *said: str, status: int = 2) -> None:
     assert [text for text in said if text not in got.stderr] == [], got.stderr[-500:]
 
 
-def prepare(experiment: Experiment) -> stage.Experiment:
+def prepare(experiment: Experiment) -> folders.Experiment:
     """Prepares the runs of the plan in this process."""
     folder = experiment.folder
-    return stage.prepare(str(folder / "plan.toml"), str(folder / "out.csv"), str(experiment.pfs.path))
+    return folders.prepare(str(folder / "plan.toml"), str(folder / "out.csv"), str(experiment.pfs.path))
 
 
 # Plans and starts
@@ -338,7 +338,8 @@ def test_one_process_at_a_time_writes_the_csv(made: Experiment) -> None:
     (made.folder / "out.csv").unlink()
     with open(made.runs / "csv.lock", "w") as held, ThreadPoolExecutor(1) as threads:
         fcntl.flock(held, fcntl.LOCK_EX)
-        written = threads.submit(run.gather, stage.started(str(made.folder / "out.csv")), str(made.folder / "out.csv"))
+        path = str(made.folder / "out.csv")
+        written = threads.submit(run.gather, folders.started(path), path)
         with pytest.raises(TimeoutError):
             written.result(0.5)
         assert not (made.folder / "out.csv").exists()
@@ -349,7 +350,7 @@ def test_one_process_at_a_time_writes_the_csv(made: Experiment) -> None:
 @pytest.mark.parametrize("error", [KeyboardInterrupt, OSError])
 def test_a_start_that_ends_half_way_leaves_no_folder(error: type[BaseException], experiment: Experiment,
                                                      monkeypatch: pytest.MonkeyPatch) -> None:
-    monkeypatch.setattr(stage, "add_runs", mock.Mock(side_effect=error))
+    monkeypatch.setattr(folders, "add_runs", mock.Mock(side_effect=error))
     with pytest.raises(error):
         prepare(experiment)
     assert not experiment.runs.exists()
@@ -358,7 +359,7 @@ def test_a_start_that_ends_half_way_leaves_no_folder(error: type[BaseException],
 def test_what_is_gone_has_not_changed(made: Experiment, monkeypatch: pytest.MonkeyPatch,
                                       capsys: pytest.CaptureFixture[str]) -> None:
     """An instance that somebody deletes while a start waits for an earlier one."""
-    monkeypatch.setattr(stage, "lock", lambda *_: (made.folder / "shops" / "a").unlink())
+    monkeypatch.setattr(folders, "lock", lambda *_: (made.folder / "shops" / "a").unlink())
     assert len(prepare(made).runs) == 6 and capsys.readouterr() == ("", "")
 
 
@@ -954,7 +955,7 @@ def test_short_runs_share_a_process(seconds: str, count: int, runs: int) -> None
 
 def test_files_of_orders_have_the_settings_in_their_names() -> None:
     """And the beginning of the instance's, at most 100 bytes of it."""
-    row = dict.fromkeys(stage.RUN, "") | {"rounds": "10", "take": "4", "passes": "0", "seed": "2", "number": "7"}
+    row = dict.fromkeys(folders.RUN, "") | {"rounds": "10", "take": "4", "passes": "0", "seed": "2", "number": "7"}
     assert run.order_name(row | {"instance": "x/ta001:2"}) == "ta001-block-2-rounds-10-take-4-passes-0-seed-2-number-7"
     assert run.order_name(row | {"instance": "x" + "\u00e4" * 60}).partition("-")[0] == "x" + "\u00e4" * 49
 
@@ -1048,13 +1049,13 @@ def test_the_file_has_the_version_the_sums_and_each_start(experiment: Experiment
 def test_a_damaged_list_of_starts_is_begun_anew(damaged: bytes, folder: pathlib.Path) -> None:
     (folder / "provenance.json").write_bytes(damaged)
     for count in (1, 2):
-        stage.note_start(folder / "stage", {}, {})
+        folders.note_start(folder / "stage", {}, {})
         assert len(json.loads((folder / "provenance.json").read_text())["starts"]) == count
 
 
 def test_the_lock_names_only_its_last_process(folder: pathlib.Path) -> None:
     (folder / "lock").write_text("9" * 99)
-    stage.lock(folder, "out.csv")
+    folders.lock(folder, "out.csv")
     assert (folder / "lock").read_text() == f"{os.getpid()} on {os.uname().nodename}"
 
 
@@ -1062,7 +1063,7 @@ def test_the_library_that_was_loaded_is_copied(libpfs: Library, monkeypatch: pyt
     """Also if only its name is known, as where the system has it."""
     for path in (_library.FILE, str(libpfs.path)):
         monkeypatch.setattr(_library, "PATH", path)
-        assert stage.library() == str(libpfs.path)
+        assert folders.library() == str(libpfs.path)
 
 
 def test_a_reference_must_name_an_instance_and_status_writes_what_there_is(experiment: Experiment) -> None:

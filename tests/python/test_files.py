@@ -17,8 +17,9 @@ import pfs
 import pytest
 from hypothesis import given
 from hypothesis import strategies as st
-from pfs import _search, _state
-from pfs._orders import order_in
+from pfs.shops import search as _search
+from pfs.files import state as _state
+from pfs.plan.orders import order_in
 from support import files, plainly
 from support.plainly import written
 
@@ -390,7 +391,7 @@ def test_there_is_one_block_and_a_limit_of_bytes(tmp_path: pathlib.Path, monkeyp
         pfs.read_all(io.BytesIO(b"1 1\n7\n"), "matrix")
     with pytest.raises(ValueError, match="layout must be 'taillard', 'orlib' or 'matrix', not 'matrices'"):
         pfs.read(io.BytesIO(b"1 1\n7\n"), "matrices")
-    monkeypatch.setattr("pfs._library.LONGEST_INPUT", 8)
+    monkeypatch.setattr("pfs.binding.library.LONGEST_INPUT", 8)
     assert matrix_of("1 1\n700\n") == pfs.Instance([[700]])
     with pytest.raises(pfs.TableFault, match="^: line 1, the file has more than 8 bytes$"):
         matrix_of("1 1\n7000\n")

@@ -17,7 +17,8 @@ import numpy
 import pytest
 from hypothesis import given
 from hypothesis import strategies as st
-from pfs import _drawing, _gantt
+from pfs.schedules import drawing as _drawing
+from pfs.commands import gantt as _gantt
 from pfs.experiments import __main__ as experiments
 from support import second_program
 from support.colours import contrast, hexadecimal, least_difference, seen, turn

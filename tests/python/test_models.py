@@ -8,9 +8,9 @@ import pfs
 import pytest
 from hypothesis import given, settings
 from hypothesis import strategies as st
-from pfs._order_text import numbers_in
-from pfs._orders import order_in
-from pfs._tables import table_of, write_table
+from pfs.base.order_text import numbers_in
+from pfs.plan.orders import order_in
+from pfs.files.tables import table_of, write_table
 from support import plainly
 
 # Of names: capitals, blanks, letters outside ASCII, separators, quotes and line ends. Some could be formulas.

@@ -11,7 +11,7 @@ from typing import Any
 from unittest import mock
 
 import pytest
-from pfs.experiments import one, stage
+from pfs.experiments import folders, one
 from pfs.experiments.one import Failed, Found, Point
 from support import plainly
 from support.files import FILES, TWO_BLOCKS
@@ -28,9 +28,9 @@ BEST, OTHER = "order 3\n2 1 3\nmakespan 10\n", "order 3\n1 2 3\nmakespan 11\n"
 @pytest.fixture
 def copies(folder: pathlib.Path, pfs: Program, libpfs: Library, monkeypatch: pytest.MonkeyPatch) -> pathlib.Path:
     """The folder of copies."""
-    stage.begin(folder, str(pfs.path))
-    made = folder / stage.stage_of(folder)
-    stage.copy(str(libpfs.path), made / one.LIBRARY)
+    folders.begin(folder, str(pfs.path))
+    made = folder / folders.stage_of(folder)
+    folders.copy(str(libpfs.path), made / one.LIBRARY)
     (made / "1").write_bytes(TWO_BLOCKS)
     (made / "2").write_bytes(FILES["eight"])
     monkeypatch.setattr(one, "HERE", str(made))

@@ -5,7 +5,7 @@ import pathlib
 import pfs
 import pytest
 from hypothesis import given, strategies as st
-from pfs._orders import moved
+from pfs.plan.orders import moved
 from support import plainly
 from support.commands import ended
 

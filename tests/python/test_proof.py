@@ -1,6 +1,7 @@
 """Proofs that an order is optimal: against all orders of small instances, at the limits of size and time, and when they
 are interrupted."""
 import copy
+import itertools
 import os
 import pickle
 import signal
@@ -15,7 +16,8 @@ import pfs
 import pytest
 from hypothesis import given
 from hypothesis import strategies as st
-from pfs import _library, _proof
+from pfs.binding import library as _library
+from pfs.shops import proof as _proof, search as _search
 from support import plainly
 
 # No proof of it ends within minutes.
@@ -63,6 +65,31 @@ def test_without_a_proof_nothing_is_optimal_but_at_the_bound() -> None:
     for name in ("makespan", "cells", "machines", "rounds", "seed"):
         with pytest.raises(ValueError, match=f"^{name} must be from 0 to"):
             pfs.Solution([0, 1], **{"makespan": 7, name: -1})
+
+
+def test_a_search_is_between_two_proofs(monkeypatch: pytest.MonkeyPatch) -> None:
+    """The first one is short, and may be all; the last one is told how many seconds are left."""
+    shop, stop = pfs.taillard(1), threading.Event()
+    optimum = mock.Mock(return_value=types.SimpleNamespace(optimal=False))
+    monkeypatch.setattr(pfs.Instance, "optimum", optimum)
+    monkeypatch.setattr(_proof, "proved", lambda shop, best, seconds, is_stopped: (best.rounds, seconds, is_stopped()))
+    monkeypatch.setattr(_proof, "time", types.SimpleNamespace(monotonic=itertools.count(7, 2.5).__next__))
+
+    def found(start: Any, **more: Any) -> Any:
+        search = _search.Search(shop, start, 0, None, 0, 0)
+        return _proof.solve_and_prove(search, 3, None, None, stop=stop, prove=4, **more)
+
+    assert found(None, watch=lambda left: left) == (3, 4, 1.5) and not optimum.called
+    stop.set()
+    assert found(None) == (0, 4, True)
+    assert found(range(20), early=0.5) == (0, 4, True)
+    optimum.assert_called_once_with(0.5, start=mock.ANY, stop=stop)
+    assert [*optimum.call_args.kwargs["start"]] == [*range(20)]
+    optimum.side_effect = MemoryError
+    assert found(None, early=0.5) == (0, 4, True) and optimum.call_args.kwargs["start"] is None
+    optimum.side_effect = None
+    optimum.return_value.optimal = True
+    assert found(None, early=0.5) is optimum.return_value
 
 
 def test_what_is_proved_stays_with_the_solution() -> None:
@@ -180,7 +207,7 @@ def test_without_a_thread_nothing_is_proved(monkeypatch: pytest.MonkeyPatch) -> 
 
 def test_a_call_that_is_left_behind_keeps_no_program_from_ending(tmp_path: Any) -> None:
     begun = time.monotonic()
-    done = plainly.python("-c", f"import pfs, threading; from pfs import _proof; _proof.NODES = 10**9\n"
+    done = plainly.python("-c", f"import pfs, threading; from pfs.shops import proof; proof.NODES = 10**9\n"
                           f"print(pfs.taillard({HARD}).solve(1, prove=0.3).optimal)", cwd=tmp_path)
     assert (done.stdout, done.stderr, done.returncode) == ("False\n", "", 0) and time.monotonic() - begun < 20
 

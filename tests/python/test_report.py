@@ -755,19 +755,21 @@ def test_the_plot_of_differences_has_intervals_of_students_distribution(done: Ca
     assert axis.figure._supxlabel.get_text() == "RPD minus that of a, %"
 
 
-def test_differences_are_paired_by_instance_and_seed_in_a_panel_for_each_size(done: Callable[[str], Any]) -> None:
-    """A method without seeds is compared on all of them. Only settings of equal rounds are. The names are those of the
-    tables."""
+def test_differences_are_those_of_the_instances_means_in_a_panel_for_each_size(done: Callable[[str], Any]) -> None:
+    """Seeds of an instance count as one. A method without seeds is compared on all of them. Only settings of equal
+    rounds are. The names are those of the tables."""
     rows = [("i", 20, 5, 100, 1, 110, "m"), ("i", 20, 5, 100, 2, 104, "m"), ("j", 50, 10, 100, 1, 102, "m"),
             ("i", 20, 5, 100, "", 101, "n"), ("j", 50, 10, 100, "", 105, "n"),
             ("i", 20, 5, 200, 1, 103, "m"), ("i", 20, 5, 200, 2, 103, "m"), ("j", 50, 10, 200, 1, 101, "m"),
-            ("i", 20, 5, 200, "", 100, "n"), ("j", 50, 10, 200, "", 100, "n")]
+            ("i", 20, 5, 200, "", 100, "n"), ("j", 50, 10, 200, "", 100, "n"),
+            ("k", 20, 5, 100, 1, 102, "m"), ("k", 20, 5, 100, "", 104, "n"),
+            ("k", 20, 5, 200, 1, 103, "m"), ("k", 20, 5, 200, "", 100, "n")]
     text = "instance,jobs,machines,rounds,seed,makespan,method,reference\n" + "".join(
         f"{','.join(map(str, row))},100\n" for row in rows)
     figure = reports.differences(done(text), None)
-    half = 12.706 * statistics.stdev([-9, -3]) / math.sqrt(2)
+    half = 12.706 * statistics.stdev([-6, 2]) / math.sqrt(2)
     assert {axis.get_title().replace("\n", " "): bars_of(axis) for axis in figure.axes if axis.collections} == {
-        "20×5, 100 rounds": [pytest.approx([-6 - half, -6 + half], abs=0.01)], "20×5, 200 rounds": [[-3, -3]],
+        "20×5, 100 rounds": [pytest.approx([-2 - half, -2 + half], abs=0.01)], "20×5, 200 rounds": [[-3, -3]],
         "50×10, 100 rounds": [[3, 3]], "50×10, 200 rounds": [[-1, -1]]}
     assert figure._supxlabel.get_text() == "RPD minus that of the first setting, %"
     labels = {label.get_text() for axis in figure.axes for label in axis.get_yticklabels()}
@@ -798,7 +800,7 @@ def test_the_labels_of_differences_have_room(done: Callable[[str], Any]) -> None
 TEXTS = {"gap": "Gap to the bound: mean, and range over the seeds; gap to the lower bound, %; jobs×machines",
          "rpd": "Relative percentage deviation: mean, and range over the seeds; RPD, %; jobs×machines",
          "seconds": "Mean relative percentage deviation by time; RPD, %; processor time, s; method",
-         "time": "processor time per table cell, ns; jobs×machines; and maximum", "differences": "intervals of; 95 %",
+         "time": "processor time per table cell, ns; jobs×machines; and maximum", "differences": "intervals of 95 %",
          "trajectory": "Mean relative percentage deviation during the search; mean RPD, %; processor time, s; setting",
          "target": "Time to target: runs that have reached it; share of the runs; processor time, s; setting"}
 

@@ -18,7 +18,10 @@ import pfs
 import pytest
 from hypothesis import example, given
 from hypothesis import strategies as st
-from pfs import _commands, _library, _rounds, _search
+from pfs.commands import main as _commands
+from pfs.binding import library as _library, rounds as _rounds
+from pfs.shops import search as _search
+from pfs.plan.plan import Limits
 from support import plainly
 
 
@@ -213,12 +216,13 @@ def test_parts_take_a_tenth_of_a_second_and_the_last_one_ends_by_the_limit(
     assert clock.parts == parts and found.rounds == sum(parts) and got == list(itertools.accumulate(parts))
     clock.parts.clear()
     search = _search.Search(shop, None, 0, None, 0, 0)
-    best, fault = _commands.searched(search, rounds or 1_000_000, end, [], lambda kept: ends.append(kept.rounds))
+    best, fault = _commands.searched(_commands.solve_within, search, Limits(rounds or 1_000_000, end, 0.0), [],
+                                     lambda kept: ends.append(kept.rounds))
     assert clock.parts == parts and ends == [0, *got] and (best.rounds, fault) == (found.rounds, None)
 
 
-TRACED = {str(pathlib.Path(pfs.__file__).with_name(f"_{name}.py"))
-          for name in ("rounds", "search", "solution", "faults")}
+TRACED = {str(pathlib.Path(pfs.__file__).parent / f"{name}.py")
+          for name in ("binding/rounds", "shops/search", "shops/solution", "base/faults")}
 
 
 class Interrupting:
@@ -298,7 +302,7 @@ def test_an_interruption_at_each_bytecode_loses_nothing(cut: Callable[[list[int]
 
 
 def test_a_second_interruption_of_a_search_keeps_its_best_order(monkeypatch: pytest.MonkeyPatch) -> None:
-    monkeypatch.setattr(_search, "solve", mock.Mock(side_effect=KeyboardInterrupt))
+    monkeypatch.setattr("pfs.shops.proof.solve", mock.Mock(side_effect=KeyboardInterrupt))
     with pytest.raises(pfs.Interrupted) as stop:
         pfs.generate(5, 2, 1).solve(9)
     assert stop.value.solution == pfs.generate(5, 2, 1).neh()

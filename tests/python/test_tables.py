@@ -10,8 +10,8 @@ import pfs
 import pytest
 from hypothesis import given
 from hypothesis import strategies as st
-from pfs import _tables
-from pfs._orders import order_in
+from pfs.files import tables as _tables
+from pfs.plan.orders import order_in
 from support.plainly import written
 
 MISSING = "the time is missing: write 0 where a job skips a machine (it still waits there for its turn)"

@@ -15,12 +15,16 @@ from unittest import mock
 import numpy as np
 import pfs
 import pytest
-from pfs import _cli, _drawing, _gantt, _library, _tables, _workbooks
-from pfs._calendar import DAYS
-from pfs._commands import plan_words, words
-from pfs._names import seconds_in
-from pfs._version import VERSION
-from pfs.experiments import ExperimentError, plan, run, stage
+from pfs.commands import cli as _cli, gantt as _gantt
+from pfs.schedules import drawing as _drawing
+from pfs.binding import library as _library
+from pfs.files import tables as _tables
+from pfs.base import workbooks as _workbooks
+from pfs.schedules.calendar import DAYS
+from pfs.commands.main import plan_words, words
+from pfs.base.names import seconds_in
+from pfs.base.version import VERSION
+from pfs.experiments import ExperimentError, folders, plan, run
 from pfs.experiments.__main__ import command_line
 from pfs.web.__main__ import words as web_words
 from support import plainly
@@ -65,7 +69,8 @@ def test_the_help_has_no_word_that_is_nowhere_else() -> None:
             page = (TOP / "python" / f"{name}.1").read_text().replace("Ar SIGN", "Ar DECIMAL")
             due = {each.option_strings[-1][1:]: "" if each.nargs == 0 else each.metavar or each.dest.upper()
                    for each in parser._actions[1:] if each.option_strings}
-            assert dict(re.findall(r"^\.It Fl (-[\w-]+)(?: Ar (\S+))?$", page, re.MULTILINE)) == due, name
+            for macro in ("It", "Op")[:1 + (name == "pfs-web")]:
+                assert dict(re.findall(rf"^\.{macro} Fl (-[\w-]+)(?: Ar (\S+))?$", page, re.MULTILINE)) == due, name
         commands: dict[str, Any] = next((each.choices for each in parser._actions
                                          if isinstance(each.choices, dict)), {})
         for each in (parser, *commands.values()):
@@ -79,7 +84,7 @@ def test_the_help_has_no_word_that_is_nowhere_else() -> None:
 
 
 def test_the_version_of_a_checkout_names_the_commit(tmp_path: pathlib.Path, monkeypatch: pytest.MonkeyPatch) -> None:
-    module = tmp_path / "python" / "src" / "pfs" / "_cli.py"
+    module = tmp_path / "python" / "src" / "pfs" / "commands" / "cli.py"
     module.parent.mkdir(parents=True)
     module.write_text("")
     monkeypatch.setattr(_cli, "__file__", str(module))
@@ -106,7 +111,7 @@ def test_the_version_of_a_checkout_names_the_commit(tmp_path: pathlib.Path, monk
     ("/bin/true", "/bin/true is not pfs: `/bin/true generate 1 1 1` must print an instance")])
 def test_what_is_not_pfs(program: str | None, said: str) -> None:
     with pytest.raises(ExperimentError) as caught:
-        stage.find_pfs(program)
+        folders.find_pfs(program)
     assert str(caught.value) == said
 
 
@@ -123,7 +128,7 @@ def test_a_csv_without_the_rows_that_are_needed(tmp_path: pathlib.Path, text: st
 
 IN_ASCII = """
 import pathlib, pfs
-from pfs._commands import printed
+from pfs.commands.main import printed
 from pfs.experiments.plan import rows_of
 from pfs.web import plans
 name = chr(0xe4)
@@ -163,12 +168,12 @@ def test_runs_that_were_lost_come_last(tmp_path: pathlib.Path, monkeypatch: pyte
     """What is done isn't made again, and results and the log of the start before are gone."""
     for name in ("results", "slurm"):
         (tmp_path / name).mkdir()
-    listed = [dict.fromkeys(stage.RUN, "") | {"number": str(number)} for number in range(1, 6)]
+    listed = [dict.fromkeys(folders.RUN, "") | {"number": str(number)} for number in range(1, 6)]
     done = b"o\n4,1,1,1,1.000000,ok,,,\n"
     (tmp_path / "results" / "4").write_bytes(b"%d\n%b" % (len(done), done))
     (tmp_path / "results" / "2").write_bytes(b"torn")
     (tmp_path / "joblog").write_text("Seq\n1\t:\t1\t2\t0\t0\t137\t9\tpfs-x/one 1 3\n")
-    monkeypatch.setattr(run, "prepare", lambda *_: stage.Experiment(tmp_path, "x", listed, {}))
+    monkeypatch.setattr(run, "prepare", lambda *_: folders.Experiment(tmp_path, "x", listed, {}))
     given: Any = types.SimpleNamespace(plan="p", csv="c", pfs=None, retry=False)
     _, left = run.begin(given, "sh", "dash")
     assert (tmp_path / "left").read_text() == "2\n3\n5\n1\n" and [each["number"] for each in left] == [*"2351"]

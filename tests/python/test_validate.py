@@ -12,7 +12,8 @@ import pytest
 from hypothesis import given
 from hypothesis import strategies as st
 from hypothesis.extra import numpy as arrays
-from pfs import _instance, _library, _validate
+from pfs.shops import instance as _instance
+from pfs.binding import library as _library, validate as _validate
 from support import plainly
 
 TIMES = [[3, 2], [2, 5], [4, 1]]

@@ -3,6 +3,7 @@ tests/python/test_web_server.py starts it, and test_web_page.py looks at the pag
 import base64
 import copy
 import functools
+import hashlib
 import io
 import itertools
 import json
@@ -12,11 +13,11 @@ import pathlib
 import random
 import re
 import resource
+import struct
 import tempfile
 import time
 import zipfile
 from collections.abc import Callable, Iterator
-from types import SimpleNamespace
 from typing import Any
 from unittest import mock
 
@@ -30,7 +31,7 @@ from support.tools import wait_until
 for module in ("flask", "waitress", "openpyxl"):
     require_module(module)
 from flask.testing import FlaskClient
-from pfs import _tables
+from pfs.files import tables as _tables
 from pfs.web import app, apart, plans, searches
 from werkzeug.test import TestResponse
 
@@ -44,7 +45,10 @@ PLAN: dict[str, Any] = {"shop": SHOP, "order": ORDER, "held": 0, "calendar": DAT
 
 
 def client_of(found: searches.Searches) -> FlaskClient:
-    return app.made({HOST, "planning.example"}, TOKEN, found).test_client()
+    client = app.made({HOST, "planning.example"}, TOKEN, found).test_client()
+    # A client doesn't hold its application.
+    setattr(client, "held", client.application)
+    return client
 
 
 def client_here(found: searches.Searches) -> FlaskClient:
@@ -375,7 +379,11 @@ def test_fields_of_a_request() -> None:
     cases: list[dict[str, Any]] = [{}, {"x": None}, {"x": 0}]
     assert [plans.field(given, "x", int, 7) for given in cases] == [7, 7, 0]
     assert plans.field({"x": 9}, "x", int, most=9) == 9
-    assert plans.text_from([[2, ["a", "b"]], [2**20, []]], ";") == "sep=;\n\na;b\r\n" + "\n" * (2**20 - 3) + '""\r\n'
+    assert plans.rows_from([[2, ["a ", "'=b"]], [7, [" "]], [2**20, ["c"]]]) == [(2, ["a", "=b"]), (2**20, ["c"])]
+    for rows in ([[1, ["a"] * 16_385]], [[2, ["a"]], [2, ["b"]]], [[2**20 + 1, ["a"]]], [["a"]], [[0, ["a"]]], {}):
+        with pytest.raises(apart.Wrong, match=str(plans.OTHER_FORM)):
+            plans.rows_from(rows)
+    assert len(plans.rows_from([[1, ["a"] * 16_384]])) == 1
     for value in (-1, 10, True, 9.0, "9", [9]):
         with pytest.raises(apart.Wrong, match=str(plans.OTHER_FORM)):
             plans.field({"x": value}, "x", int, most=9)
@@ -447,9 +455,13 @@ def test_a_server_that_is_busy_says_so(monkeypatch: pytest.MonkeyPatch) -> None:
 
 # Plans
 
+# What tells the table of SHOP from others, as a definition says it.
+NAMES = f"({(*SHOP['jobs'],)}, {(*SHOP['machines'],)}, 'h', 1)".encode()
+TABLE_OF_SHOP = hashlib.sha256(b"(4, 3)" + struct.pack("12I", *sum(SHOP["times"], [])) + NAMES).hexdigest()
 # The response on the plan of docs/PLAN.md.
 TOLD: dict[str, Any] = {
     "makespan": "15.5 h", "span": 155, "bound": "15.5 h", "isOptimal": True, "above": 0.0, "gone": [], "new": [],
+    "isOther": False, "table": TABLE_OF_SHOP,
     "end": "2026-12-01 13:30", "bottleneck": "paint", "moved": [],
     "heads": ["machine", "work", "utilisation %", "idle before", "idle between", "idle after", "critical %"],
     "machines": [["saw", "10.0", 64.5, "0.0", "0.0", "5.5", 6.5], ["drill", "9.5", 61.3, "1.0", "2.0", "3.0", 6.5],
@@ -459,7 +471,7 @@ TOLD: dict[str, Any] = {
 
 
 @pytest.mark.parametrize(("asks", "told"), [
-    ({}, {}), ({"least": 2**53}, {}),
+    ({}, {}), ({"least": 2**53, "of": TABLE_OF_SHOP}, {}), ({"least": 2**53}, {"isOther": True}),
     ({"calendar": {"begin": " 2026-11-30T06:00 ", "shifts": " \n06:00-14:00 \n\n fri:06:00-12:00", "days": " mon-fri",
                    "closed": " "}}, {}),
     ({"calendar": {"shifts": " ", "days": ""}, "title": ""},
@@ -469,7 +481,7 @@ TOLD: dict[str, Any] = {
                                     "frei danach", "kritisch %"]}),
     ({"kept": [["box", "chair", "shelf", "gone"], ["shelf", *ORDER[:3]]]}, {"moved": [[], ["shelf"]]}),
     ({"order": ["box", "stool", "chair", "shelf", "box"], "held": 1}, {"gone": ["stool"], "new": ["table"]}),
-    ({"order": ["box", "chair", "shelf"], "held": 3, "least": 160}, {
+    ({"order": ["box", "chair", "shelf"], "held": 3, "least": 160, "of": TABLE_OF_SHOP}, {
         "makespan": "16.5 h", "span": 165, "bound": "16.0 h", "isOptimal": False, "above": 3.1, "new": ["table"],
         "end": "2026-12-02 06:30", "machines": [
             ["saw", "10.0", 60.6, "0.0", "0.0", "6.5", 60.6], ["drill", "9.5", 57.6, "1.0", "2.0", "4.0", 15.2],
@@ -483,6 +495,19 @@ def test_a_plan_is_told(asks: dict[str, Any], told: dict[str, Any], client: Flas
     assert got == {**TOLD, **told}
     assert ("<title>Week 49</title>" in chart) == ("title" not in asks)
     assert ("Auftrag suchen:" in chart) == ("language" in asks)
+
+
+@pytest.mark.parametrize("other", [
+    {"unit": "min"}, {"decimals": 0}, {"jobs": ["table", "chair", "shelf", "bin"]},
+    {"machines": ["saw", "drill", "oven"]}, {"times": [*SHOP["times"][:3], [10, 10, 59]]}])
+def test_what_was_proved_of_another_table_is_not_used(other: dict[str, Any], client: FlaskClient) -> None:
+    """A title is no part of a table."""
+    shop = {**SHOP, **other}
+    body = {"shop": shop, "order": shop["jobs"][::-1], "least": 10**6, "of": TABLE_OF_SHOP}
+    got = answer(client, "/api/plan", body)
+    assert got["isOther"] and not got["isOptimal"] and got["table"] != TABLE_OF_SHOP
+    again = answer(client, "/api/plan", {**body, "of": got["table"], "title": "Week 50"})
+    assert (again["isOther"], again["isOptimal"]) == (False, True)
 
 
 @pytest.mark.parametrize(("times", "told"), [([[0, 1, 0], [0, 0, 1]], ("2", "1", False, 100.0)),
@@ -563,22 +588,23 @@ def test_a_search_finds_what_the_package_finds(client: FlaskClient) -> None:
 
 @pytest.mark.parametrize(("held", "options", "said"), [
     (3, {"order": ["box", "chair", "gone", "shelf"], "seed": 2**53, "seconds": 10**6},
-     "iterated-greedy 9007199254740992 [3, 1, 2, 0] [3, 1, 2] 600 None"),
-    (None, {}, "iterated-greedy 0 [3, 0, 1, 2] [] 0 1.0")])
+     "100 9007199254740992 [3, 1, 2, 0] [3, 1, 2] None 600 0.0 0.0"),
+    (None, {"seconds": 9}, "100 0 [3, 0, 1, 2] [] None 9 0.1 1.0")])
 def test_a_proof_is_tried_where_no_job_is_held(
         client: FlaskClient, held: int | None, options: dict[str, Any], said: str, monkeypatch: pytest.MonkeyPatch,
         caplog: pytest.LogCaptureFixture) -> None:
     """New jobs come after those that are held. Why a search has failed is reported."""
-    optimum = mock.Mock(return_value=SimpleNamespace(optimal=False))
-    monkeypatch.setattr(pfs.Instance, "optimum", optimum)
-    monkeypatch.setattr(pfs.Instance, "solve", lambda _, **given: int(" ".join(
-        str(given[name]) for name in ("method", "seed", "start", "hold", "time_limit", "prove"))))
+    def fail(search: Any, rounds: Any, _: Any, seconds: int, **given: Any) -> None:
+        start = memoryview(search.start).cast("I").tolist()
+        int(" ".join(map(str, (search.passes, search.seed, start, search.held, rounds, seconds, given["early"],
+                               given["prove"]))))
+
+    monkeypatch.setattr("pfs.plan.plan.solve_and_prove", fail)
     caplog.set_level("INFO")
     name = answer(client, "/api/search", {**PLAN, "held": held, **options})["search"]
     wait_until(lambda: "search: 4 jobs, 3 machines, 0 rounds\n" in caplog.text, "the log names the search")
     got = asked(client, f"/api/search/{name}", method="GET")
     assert (got.status_code, got.json) == (422, {"error": f"invalid literal for int() with base 10: '{said}'"})
-    assert [(*each.args, each.kwargs["start"]) for each in optimum.call_args_list] == [(0.1, [3, 0, 1, 2])] * (not held)
 
 
 def test_searches_wait_in_a_queue_and_are_limited(monkeypatch: pytest.MonkeyPatch) -> None:

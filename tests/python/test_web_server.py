@@ -77,15 +77,6 @@ def token_file(tmp_path: pathlib.Path) -> pathlib.Path:
 
 # Its command line
 
-def test_the_manual_page_has_the_options() -> None:
-    page = (TOP / "python" / "pfs-web.1").read_text()
-    usage = output_of([*COMMAND, "--help"], TOP, env=environment())
-    due = [(name, value) for name, value in re.findall(r"--([a-z-]+)(?: ([A-Z]+))?", usage.partition("\n\n")[0])]
-    for macro in ("Op", "It"):
-        found = re.findall(rf"^\.{macro} Fl -([\w-]+)(?: Ar (\w+))?$", page, re.MULTILINE)
-        assert sorted(found) == sorted({*due}), macro
-
-
 @pytest.mark.parametrize(("words", "said"), [
     *((f"--host 0.0.0.0 {more}".split(), "--host needs --name, by which planners open the page, and --token-file")
       for more in ("", "--name a", "--token-file a")),

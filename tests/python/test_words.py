@@ -5,8 +5,9 @@ import re
 
 import pfs
 import pytest
-from pfs import _words
-from pfs._chart import PAGE_WORDS
+from pfs.base import languages as _words
+from pfs.schedules import chart, report
+from pfs.schedules.chart import PAGE_WORDS
 from support.browser import PEN, looked_at, scripted
 from support.commands import ended
 
@@ -17,11 +18,11 @@ DATES = ["--begin", "2026-11-30T06:00", "--shift", "06:00-14:00"]
 
 def test_each_text_is_in_the_table_and_each_of_the_table_is_said() -> None:
     german = _words.texts_in((importlib.resources.files("pfs") / _words.GERMAN).read_bytes(), "", None)
-    sources = {path.name: path.read_text("utf-8") for path in pathlib.Path(pfs.__file__).parent.iterdir()
-               if path.suffix in (".py", ".html")}
-    said = set(re.findall(r"say\([\"']([^\"']+)[\"']\)", "".join(sources.values())))
-    said |= {" ".join(text.split()) for text in re.findall("{{=([^}]+)}}", sources["chart.html"])}
-    said |= {*pfs._report.OPERATIONS, *pfs._report.JOBS, *pfs._report.PLACES, *pfs._report.MACHINES, *PAGE_WORDS,
+    top = pathlib.Path(pfs.__file__).parent
+    page, *sources = (path.read_text("utf-8") for path in (top / "chart.html", *top.rglob("*.py")))
+    said = set(re.findall(r"say\([\"']([^\"']+)[\"']\)", "".join([page, *sources])))
+    said |= {" ".join(text.split()) for text in re.findall("{{=([^}]+)}}", page)}
+    said |= {*report.OPERATIONS, *report.JOBS, *report.PLACES, *report.MACHINES, *PAGE_WORDS,
              "units of the instance", "date and time", "date and time, in shifts only"}
     assert said == german.keys()
 
@@ -82,7 +83,7 @@ def test_charts_in_german(folder: pathlib.Path) -> None:
         assert text in drawn
     for text in (title, '<html lang="de">', "<caption>Maschine saw<", ">Platz<", "Auftrag suchen:", '"a page a day":'):
         assert text in page
-    assert "&lt;b&gt;" in pfs._chart.filled(dict.fromkeys(("title", "data", "lists"), ""), lambda text: "<b>" + text)
+    assert "&lt;b&gt;" in chart.filled(dict.fromkeys(("title", "data", "lists"), ""), lambda text: "<b>" + text)
 
 
 def test_a_german_page(chromium: str, folder: pathlib.Path) -> None:

@@ -11,8 +11,8 @@ from unittest import mock
 
 import pfs
 import pytest
-from pfs import _workbooks
-from pfs._orders import order_in
+from pfs.base import workbooks as _workbooks
+from pfs.plan.orders import order_in
 from support.commands import ended
 from support.needs import tool
 from support.office import Office

@@ -2,7 +2,7 @@
 import pathlib
 import re
 
-from pfs import _commands
+from pfs.commands import main as _commands
 from support.tools import run_main
 
 

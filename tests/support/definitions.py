@@ -185,8 +185,8 @@ ITEM = re.compile(r"^((?: *///.*\n)*)(?: *#\[.*\n)*(impl\b.*|pub trait .*|(?: {4
 FUNCTIONS = """# Public functions and laws
 
 What each does, as its comment in the sources says (`crates/CRATE/src/FILE.rt`). Each is safe, returns on every input \
-that meets its conditions, and meets its contract, which also says what stays unchanged and when each error comes. A law \
-is a function whose contract is a statement about the [definitions](DEFINITIONS.md).
+that meets its conditions, and meets its contract, which also says what stays unchanged and when each error comes. A \
+law is a function whose contract is a statement about the [definitions](DEFINITIONS.md).
 """
 
 

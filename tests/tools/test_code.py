@@ -35,7 +35,7 @@ def assert_silent(words: list[str], cwd: pathlib.Path = TOP) -> None:
 
 
 def test_scripts_are_found_by_their_first_lines() -> None:
-    assert {"python/src/pfs/_gantt.py", "tests/fuzz.py", "tools/build"} <= set(scripts("python"))
+    assert {"python/src/pfs/commands/gantt.py", "tests/fuzz.py", "tools/build"} <= set(scripts("python"))
     assert {".ci/run", "share/pfs.bash", "tools/install"} <= set(scripts("shell"))
 
 

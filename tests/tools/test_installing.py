@@ -239,7 +239,7 @@ def test_the_pages_name_the_c_library_that_is_needed(top: pathlib.Path, pfs: Pro
 # One version
 
 STATED = {"CHANGELOG.md": r"^## \[(\d.*?)\]", "CITATION.cff": r"^version: (.*)$",
-          "lib/pfs.h": r'^#define PFS_VERSION "(.*)"$', "python/src/pfs/_version.py": r'^VERSION\b.* = "(.*)"$'}
+          "lib/pfs.h": r'^#define PFS_VERSION "(.*)"$', "python/src/pfs/base/version.py": r'^VERSION\b.* = "(.*)"$'}
 STATED |= dict.fromkeys(("share/pfs.1", "share/pfs.3", "python/pfs-experiments.1", "python/pfs-gantt.1",
                          "python/pfs-plan.1", "python/pfs-web.1"), r"^\.Os pfs (.*)$")
 

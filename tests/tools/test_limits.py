@@ -20,7 +20,7 @@ LIMITS |= {"MOST_MAKESPAN": LIMITS["GREATEST_MAKESPAN"], "MOST_NOTE": LIMITS["GR
 # Where a constant has the name of the limit.
 NAMED = {
     "lib/pfs.h": r"^#define PFS_(\w+) (?:UINT64_C\()?(\d+)",
-    "python/src/pfs/_rounds.py": r"^(MOST_ROUNDS): Final = (\d+)$",
+    "python/src/pfs/binding/rounds.py": r"^(MOST_(?:ROUNDS|PASSES)): Final = (\d+)$",
     "tests/support/second_library.py": r"^(MOST_\w+) = (\d+)$",
     "tests/support/second_program.py": r"^(\w+) = (\d+)$",
     "crates/pfs_c/src/texts/writing.rt": r"^const (\w+): u64 = (\d+);$",
@@ -48,13 +48,12 @@ TOLD = {
                     "order file has at most {LONGEST_ORDER_FILE} bytes"],
     "lib/pfs.h": ["the seed is not 1 to {MOST_GENERATOR_SEED},"],
     "lib/pfs_text.c": ["the seed isn't from 1 to {MOST_GENERATOR_SEED}"],
-    "python/src/pfs/_commands.py": ['"{MOST_ROUNDS}", "", "4", "0"', "0 to {MOST_PASSES}, else "],
-    "python/src/pfs/_gantt.py": ["MOST_MACHINES, LONGEST = {MOST_JOBS}, {MOST_MACHINES}"],
+    "python/src/pfs/commands/main.py": ['"{MOST_ROUNDS}", "", "4", "0"', "0 to {MOST_PASSES}, else "],
+    "python/src/pfs/commands/gantt.py": ["MOST_MACHINES, LONGEST = {MOST_JOBS}, {MOST_MACHINES}"],
     "python/src/pfs/experiments/plan.py": [
-        '"blocks": list_of(1, {MOST_BLOCKS}', '"rounds": list_of(0, {MOST_ROUNDS}', '"takes": list_of(1, {MOST_JOBS}',
-        '"passes": list_of(0, {MOST_PASSES}'],
-    "python/src/pfs/_files.py": ["and {MOST_BLOCKS} at most", "seed : int 1 to {MOST_GENERATOR_SEED}."],
-    "python/src/pfs/_instance.py": ["``first + rounds`` is at most {MOST_ROUNDS}.", "passes, 0 to {MOST_PASSES}.",
+        '"blocks": list_of(1, {MOST_BLOCKS}', '"takes": list_of(1, {MOST_JOBS}'],
+    "python/src/pfs/files/instances.py": ["and {MOST_BLOCKS} at most", "seed : int 1 to {MOST_GENERATOR_SEED}."],
+    "python/src/pfs/shops/instance.py": ["``first + rounds`` is at most {MOST_ROUNDS}.", "passes, 0 to {MOST_PASSES}.",
                                     "a row for each of 1 to {MOST_JOBS} jobs",
                                     "a column for each of 1 to {MOST_MACHINES} machines",
                                     "numbers of 0 to {LONGEST_TIME}."],

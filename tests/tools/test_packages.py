@@ -314,10 +314,10 @@ def test_the_packages_have_their_files_where_debian_looks(extracted: pathlib.Pat
     for path in ("usr/share/doc/pfs/PROVED", *(f"{LIBRARIES}/{name.removeprefix('lib/')}" for name in VERSIONED),
                  *(f"usr/bin/{name}" for name in PROGRAMS)):
         assert found.pop(path)
-    assert found.pop(f"{MODULES}/pfs/_version.py").decode().endswith(f'VERSION = "{BETWEEN}"\n')
+    assert found.pop(f"{MODULES}/pfs/base/version.py").decode().endswith(f'VERSION = "{BETWEEN}"\n')
     found = {path: text for path, text in found.items() if ".dist-info/" not in path}
     wanted = {place: (made.copy.top / file).read_bytes() for place, file in places.items()}
-    del wanted[f"{MODULES}/pfs/_version.py"]
+    del wanted[f"{MODULES}/pfs/base/version.py"]
     assert_same_files(found, wanted)
     assert_usual_modes(extracted)
 
@@ -423,7 +423,7 @@ def test_a_wheel_holds_the_package_and_the_library(made: Made) -> None:
     wanted = {f"pfs/{name}": text for name, text in contents_of(TOP / "python" / "src" / "pfs").items()
               if "cache" not in name}
     wanted |= {f"pfs/{SHARED}": (top / f"lib/out/{SHARED}").read_bytes(),
-               "pfs/_version.py": wanted["pfs/_version.py"].replace(VERSION.encode(), BETWEEN.encode())}
+               "pfs/base/version.py": wanted["pfs/base/version.py"].replace(VERSION.encode(), BETWEEN.encode())}
     wanted |= {f"data/data/share/man/man1/{name}.1": (top / "python" / f"{name}.1").read_bytes() for name in PROGRAMS}
     assert_same_files(found, wanted)
     fields = email.message_from_string(about["dist-info/METADATA"].decode())
@@ -466,5 +466,5 @@ def test_pip_replaces_a_wheel_by_one_of_a_later_commit(made: Made, folder: pathl
     (folder / "times.csv").write_text("job [min],saw,drill\nchair,3,2\ntable,2,5\n")
     got = output_of(["clean/bin/pfs-plan", "times.csv"], folder, env=env)
     assert got == "makespan 9 min\nbound 9 min\noptimal\n1 table\n2 chair\n"
-    got = output_of(["clean/bin/python3", "-c", "import pfs._library; print(pfs._library.PATH)"], folder, env=env)
+    got = output_of(["clean/bin/python3", "-c", "from pfs.binding.library import PATH; print(PATH)"], folder, env=env)
     assert pathlib.Path(got).is_relative_to(folder / "clean")

@@ -354,7 +354,7 @@ def test_pages_name_the_library_as_it_is_called() -> None:
 
 
 def test_the_pages_of_gantt_have_its_options() -> None:
-    source = (TOP / "python" / "src" / "pfs" / "_gantt.py").read_text()
+    source = (TOP / "python" / "src" / "pfs" / "commands" / "gantt.py").read_text()
     usage, = re.findall(r"^usage: pfs-gantt (.*) \[TABLE\] PICTURE", source, re.MULTILINE)
     synopsis, listed = (re.findall(rf"^\.{macro} Fl -([\w-]+)(?: Ar (\w+))?$", TOOL_PAGES["pfs-gantt"], re.MULTILINE)
                         for macro in ("Op", "It"))

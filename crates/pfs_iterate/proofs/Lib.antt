@@ -1,5 +1,5 @@
 mod Among
-mod Ends
+mod Delays
 mod Fronts
 mod HeadRows
 mod Keeping

@@ -2,7 +2,7 @@
 ghost use Rattle.std.specs.Prelude.{◌≡◌, ◌+◌, ◌<◌, ◌≤◌, ◌^◌, true, false, length, drop, fold, nat_eq, MatchOption};
 ghost use Rattle.std.specs.List.{list_any, slice_index_or};
 ghost use Rattle.pfs_base.specs.Paths.{makespan};
-ghost use Rattle.pfs_iterate.specs.Iterated.{improved, moved};
+ghost use Rattle.pfs_iterate.specs.Iterated.{settled, moved};
 ghost use Rattle.pfs_iterate.specs.Private.Steps.{IsRearranged};
 ghost use Rattle.pfs_iterate.specs.Private.Memory.{IsWorkAfter, IsWorkFor};
 
@@ -40,13 +40,7 @@ fn place_from(jobs: &[u32], held: usize, job: u32) -> Option<usize>
 
 // Moves a job that is at a place from `held` on to its first best place there, and returns the makespan.
 #[inline(always)]
-fn visit(
-    work: &mut Work,
-    instance: &Instance,
-    options: &Options,
-    job: u32,
-    span: u64,
-) -> u64
+fn visit(work: &mut Work, instance: &Instance, options: &Options, job: u32, span: u64) -> u64
     requires work { IsWorkFor instance.now.shop work.old }
     requires held { options.now.held ≤ length work.old.seq.jobs }
     requires span { span ≡ makespan instance.now.shop work.old.seq.jobs }
@@ -68,13 +62,7 @@ fn visit(
 
 // Makes a pass over a list of jobs, and returns the makespan after it.
 #[inline(always)]
-fn pass(
-    work: &mut Work,
-    instance: &Instance,
-    options: &Options,
-    list: &[u32],
-    span: u64,
-) -> u64
+fn pass(work: &mut Work, instance: &Instance, options: &Options, list: &[u32], span: u64) -> u64
     requires work { IsWorkFor instance.now.shop work.old }
     requires held { options.now.held ≤ length work.old.seq.jobs }
     requires span { span ≡ makespan instance.now.shop work.old.seq.jobs }
@@ -103,7 +91,7 @@ pub(crate) fn improve(
     requires work { IsWorkFor instance.now.shop work.old }
     requires held { options.now.held ≤ length work.old.seq.jobs }
     requires span { span ≡ makespan instance.now.shop work.old.seq.jobs }
-    ensures jobs { work.new.seq.jobs ≡ improved instance.now.shop options.now list.now passes work.old.seq.jobs }
+    ensures jobs { work.new.seq.jobs ≡ settled instance.now.shop options.now list.now passes work.old.seq.jobs }
     ensures span { result ≡ makespan instance.now.shop work.new.seq.jobs }
     ensures same { IsRearranged options.now.held work.old.seq work.new.seq }
     ensures work { IsWorkAfter instance.now.shop work.old work.new }

@@ -3,6 +3,7 @@
 
 mod alone;
 mod destroy;
+mod examples;
 mod found;
 mod heads;
 mod improve;
@@ -11,7 +12,6 @@ pub mod laws;
 mod options;
 mod places;
 mod rounds;
-pub mod rows;
 mod stay;
 mod work;
 

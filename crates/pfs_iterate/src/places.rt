@@ -228,7 +228,12 @@ fn find_place(work: &mut Work, instance: &Instance, options: &Options, job: usiz
 
 /// Inserts a job at its best place, and returns the place and the makespan.
 #[inline(always)]
-pub(crate) fn put(work: &mut Work, instance: &Instance, options: &Options, job: usize) -> Placed<u64>
+pub(crate) fn put(
+    work: &mut Work,
+    instance: &Instance,
+    options: &Options,
+    job: usize,
+) -> Placed<u64>
     requires work { IsWorkFor instance.now.shop work.old }
     requires held { options.now.held ≤ length work.old.seq.jobs }
     requires job { job < instance.now.shop.jobs }

@@ -4,17 +4,17 @@ ghost use Rattle.std.specs.List.{All};
 ghost use Rattle.pfs_base.specs.Paths.{makespan};
 ghost use Rattle.pfs_order.specs.Sequence.{IsSequence, all_jobs};
 ghost use Rattle.pfs_search.specs.Greedy.{jobs_taken};
-ghost use Rattle.pfs_iterate.specs.Iterated.{after_round, after_rounds, found, improved};
+ghost use Rattle.pfs_iterate.specs.Iterated.{after_round, after_rounds, order_of_round, settled};
 ghost use Rattle.pfs_iterate.specs.Iterated.{is_accepted, is_free, movable, put};
-ghost use Rattle.pfs_iterate.specs.Private.Steps.{IsRearranged, raised};
+ghost use Rattle.pfs_iterate.specs.Private.Steps.{IsRearranged, renumbered};
 ghost use Rattle.pfs_iterate.specs.Private.Keeping.{IsLater, IsReady, orders_of};
 ghost use Rattle.pfs_iterate.specs.Private.Memory.{AreLists, IsWorkAfter, IsWorkFor};
 ghost use Rattle.pfs_iterate.specs.Rounds.{CanIterate, staying};
 
 use crate::destroy::{draw, generator, take_jobs};
 use crate::improve::improve;
-use crate::options::Options;
 use crate::iterated::Iterated;
+use crate::options::Options;
 use crate::places::put;
 use crate::stay::keep_free;
 use crate::work::{Lists, Work};
@@ -63,9 +63,9 @@ fn accepts(accept: &[u32], old: u64, new: u64, word: u32) -> bool
 // Makes the numbers of jobs among all but one their numbers among all. Its number is less than `count`, the number of
 // all, and theirs are less than that of the others.
 #[inline(always)]
-fn raise(jobs: &mut [u32], one: u32, count: u32)
+fn renumber(jobs: &mut [u32], one: u32, count: u32)
     requires { All (λ job. job + 1 < count) jobs.old }
-    ensures jobs { jobs.new ≡ map (raised one) jobs.old }
+    ensures jobs { jobs.new ≡ map (renumbered one) jobs.old }
 {
     for index in 0..jobs.len() {
         jobs[index] += u32::from(one <= jobs[index]);
@@ -87,7 +87,7 @@ fn list_jobs(list: &mut Vec<u32>, size: usize, stay: &[u8], words: &[u32])
         let place = words.len() - 1 - done;
         let count = (size - place) as u32;
         let job = words[place] % count;
-        raise(list.as_mut_slice(), job, count);
+        renumber(list.as_mut_slice(), job, count);
         list.push_reserved(job);
     }
     list.as_mut_slice().reverse();
@@ -96,15 +96,10 @@ fn list_jobs(list: &mut Vec<u32>, size: usize, stay: &[u8], words: &[u32])
 
 // Makes the passes over the jobs that are left after a removal.
 #[inline(always)]
-fn improve_left(
-    work: &mut Work,
-    instance: &Instance,
-    options: &Options,
-    list: &[u32],
-)
+fn improve_left(work: &mut Work, instance: &Instance, options: &Options, list: &[u32])
     requires work { IsWorkFor instance.now.shop work.old }
     requires held { options.now.held ≤ length work.old.seq.jobs }
-    ensures jobs { work.new.seq.jobs ≡ improved instance.now.shop options.now list.now options.now.partial work.old.seq.jobs }
+    ensures jobs { work.new.seq.jobs ≡ settled instance.now.shop options.now list.now options.now.partial work.old.seq.jobs }
     ensures same { IsRearranged options.now.held work.old.seq work.new.seq }
     ensures work { IsWorkAfter instance.now.shop work.old work.new }
 {
@@ -133,7 +128,7 @@ fn find(
     requires free { options.now.take ≤ length (movable options.now.held stay.now order.now) }
     requires some { options.now.take ≤ length words.now }
     requires few { length words.now ≤ options.now.take + instance.now.shop.jobs }
-    ensures order { work.new.seq.jobs ≡ found instance.now.shop options.now stay.now order.now words.now }
+    ensures order { work.new.seq.jobs ≡ order_of_round instance.now.shop options.now stay.now order.now words.now }
     ensures span { result ≡ makespan instance.now.shop work.new.seq.jobs }
     ensures all { length work.new.seq.jobs ≡ instance.now.shop.jobs }
     ensures front { front options.now.held work.new.seq.jobs ≡ front options.now.held order.now }

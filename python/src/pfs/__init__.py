@@ -13,32 +13,33 @@ Jobs, machines and places count from 0, as arrays do; in files jobs count from 1
 
 The library ``libpfs`` does the computing. Its results are proved correct for every input.
 """
-from pfs._version import VERSION as __version__
+from pfs.base.version import VERSION as __version__
 
 # Not the one of typing: `__main__` has to be run before any other module is imported.
 TYPE_CHECKING = False
 if TYPE_CHECKING:
-    from pfs._all import solve_all
-    from pfs._audit import Audited, audit
-    from pfs._calendar import Calendar
-    from pfs._faults import Fault, FileFault, Interrupted, InterruptedAll, OrderFault, TableFault
-    from pfs._files import from_frame, generate, parse_order, read, read_all, read_order, taillard
-    from pfs._instance import Check, Instance, Place, Sequence
-    from pfs._report import Report
-    from pfs._rest import Rest
-    from pfs._schedule import Schedule
-    from pfs._solution import Improvement, Solution
-    from pfs._tables import read_csv
+    from pfs.shops.many import solve_all
+    from pfs.audits.audit import Audited, audit
+    from pfs.schedules.calendar import Calendar
+    from pfs.base.faults import Fault, FileFault, Interrupted, InterruptedAll, OrderFault, TableFault
+    from pfs.files.instances import from_frame, generate, parse_order, read, read_all, read_order, taillard
+    from pfs.shops.instance import Check, Instance, Place, Sequence
+    from pfs.schedules.report import Report
+    from pfs.schedules.rest import Rest
+    from pfs.schedules.schedule import Schedule
+    from pfs.shops.solution import Improvement, Solution
+    from pfs.files.tables import read_csv
 else:
     def __getattr__(name: str) -> object:
         """Import a name of the package at its first use: `pfs-gantt` and `pfs.experiments` need no library."""
         import importlib
         if name in __all__:
-            for module in ("_all", "_audit", "_calendar", "_faults", "_files", "_instance", "_report", "_rest",
-                           "_schedule", "_solution", "_tables"):
-                found = vars(importlib.import_module(f"pfs.{module}"))
-                if name in found:
-                    return globals().setdefault(name, found[name])
+            for module in ("audits.audit", "base.faults", "files.instances", "files.tables", "schedules.calendar",
+                           "schedules.report", "schedules.rest", "schedules.schedule", "shops.instance", "shops.many",
+                           "shops.solution"):
+                found = vars(importlib.import_module(f"pfs.{module}")).get(name)
+                if getattr(found, "__module__", "") == f"pfs.{module}":
+                    return globals().setdefault(name, found)
         raise AttributeError(f"module 'pfs' has no attribute {name!r}")
 
 __all__ = [

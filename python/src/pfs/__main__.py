@@ -8,7 +8,7 @@ try:
 except (OSError, ValueError):
     """The folder was deleted, or `python3 -P` leaves it out."""
 
-from pfs._commands import main  # noqa: E402
+from pfs.commands.main import main  # noqa: E402
 
 if __name__ == "__main__":
     sys.exit(main(sys.argv[1:]))

@@ -32,8 +32,8 @@ abbrev pub ranks_without : ℕ → List ℕ → List ℕ
 ranks_without number ranks = map (lowered number) ranks
 
 -- the number of a job among all, where this is its number among all but one
-abbrev pub raised : ℕ → ℕ → ℕ
-raised one job = if nat_le one job then suc job else job
+abbrev pub renumbered : ℕ → ℕ → ℕ
+renumbered one job = if nat_le one job then suc job else job
 
 -- a place from `held` on and below `count`, whose value is at most that of each of these places, and less than that of
 -- each of these before it and of each after `last`

@@ -3,8 +3,8 @@ from __future__ import annotations
 
 from collections.abc import Iterable, Sequence
 
-from pfs._cli import Refused
-from pfs._names import printable
+from pfs.base.names import printable
+from pfs.commands.cli import Refused
 
 plain = printable
 
@@ -20,7 +20,7 @@ def listed(names: Sequence[str], most: int = 10) -> str:
 
 def csv_text(rows: Iterable[Sequence[object]]) -> str:
     """Returns rows as a CSV."""
-    from pfs._atomic import csv_writer
+    from pfs.base.atomic import csv_writer
     lines: list[str] = []
     csv_writer(lines, ()).writerows(rows)
     return "".join(lines)

@@ -33,7 +33,7 @@ if TYPE_CHECKING:
     from types import FrameType
     from typing import Any
 
-    from pfs._rounds import Rounds
+    from pfs.binding.rounds import Rounds
 
 HERE = os.path.dirname(os.path.abspath(__file__))
 LIBRARY = "libpfs.so.1"
@@ -62,9 +62,9 @@ def shared(name: str) -> Any:
     """Returns a module of the package, or its copy in this folder, in which `python3 -I -S` finds no module, and where
     nothing else is left."""
     if __package__:
-        return importlib.import_module(f"pfs._{name}")
+        return importlib.import_module(f"pfs.{name}")
     sys.dont_write_bytecode, sys.path[:0] = True, [HERE]
-    return importlib.import_module(name)
+    return importlib.import_module(name.rpartition(".")[2])
 
 
 class Failed(Exception):
@@ -147,7 +147,7 @@ def search(running: Rounds, seconds: float | None, rounds: int | None = None,
            note: Callable[[float], object] = float) -> float:
     """Searches for this processor time or up to this round, and returns the time spent. A part is only started if it is
     expected to end in time, as estimated from the part before it. Notes the time after each part."""
-    start, pace = time.process_time(), shared("rounds").Pace(seconds, time.process_time, least=0)
+    start, pace = time.process_time(), shared("binding.rounds").Pace(seconds, time.process_time, least=0)
     running.begin()
     note(time.process_time() - start)
     while count := pace.next(running.left_of_seed() if rounds is None else rounds - running.finished().total):
@@ -164,7 +164,7 @@ def by_library(run: Run, options: dict[str, Any] | None) -> Found:
     times = pairs[1::2]
     is_by_time = run.limit != "-"
     try:
-        call, rounds = caller(times, jobs, machines), shared("rounds")
+        call, rounds = caller(times, jobs, machines), shared("binding.rounds")
         more = None if options is None else rounds.iterating(sum(times), len(times), **options)
         running = rounds.Rounds(call, jobs, int(run.take), int(run.passes), int(run.seed), more=more)
         points: list[Point] = []
@@ -228,7 +228,7 @@ def order_of(text: str) -> tuple[str, list[str]]:
         raise Failed("nothing printed")
     if re.match("order2? ", lines[0]):
         return text if text.endswith("\n") else f"{text}\n", []
-    numbers = shared("order_text").numbers_in(lines[0])
+    numbers = shared("base.order_text").numbers_in(lines[0])
     if len(lines) > 1 or isinstance(numbers, str):
         raise Failed(f"no order printed: {lines[0][:40]!r}")
     if 0 in numbers:

@@ -12,7 +12,8 @@ import sys
 from collections.abc import Callable, Iterable, Iterator
 from typing import Any, TypeAlias, cast
 
-from pfs._benchmarks import canonical
+from pfs.base.benchmarks import canonical
+from pfs.binding.rounds import MOST_PASSES, MOST_ROUNDS, MOST_TEMPERATURE, TIES, USUAL, Usual
 from pfs.experiments import ExperimentError
 
 # The greatest makespan that an order file can state.
@@ -26,24 +27,31 @@ def list_of(least: float, most: float, *types: type[Any]) -> tuple[str, Callable
         type(each) in types and least <= each <= most for each in given)
 
 
+def one_of(names: Iterable[str]) -> tuple[str, Callable[[Any], bool]]:
+    """Returns what one of these names must be, and the test of it."""
+    return " or ".join(f'"{name}"' for name in names), lambda given: given in [*names]
+
+
 # What the value of each key must be, and the test of it.
 VALUES: dict[str, tuple[str, Callable[[Any], bool]]] = {
-    "blocks": list_of(1, 1000, int), "rounds": list_of(0, 1_000_000, int), "takes": list_of(1, 5000, int),
-    "passes": list_of(0, 100, int), "seeds": list_of(0, 2 ** 64 - 1, int),
+    "blocks": list_of(1, 1000, int), "rounds": list_of(0, MOST_ROUNDS, int), "takes": list_of(1, 5000, int),
+    "passes": list_of(0, MOST_PASSES, int), "seeds": list_of(0, 2 ** 64 - 1, int),
     "time_factors": list_of(0.001, 10_000, int, float),
     "repetitions": ("a whole number from 1", lambda given: type(given) is int and 1 <= given <= MOST_MAKESPAN),
-    "layout": ('"taillard" or "orlib"', lambda given: given in ("taillard", "orlib")),
+    "layout": one_of(["taillard", "orlib"]),
     "reference": ("the path of a CSV", lambda given: isinstance(given, str) and "\0" not in given),
-    "search": ('"solve" or "iterated-greedy"', lambda given: given in ("solve", "iterated-greedy")),
-    "partial": ("a whole number from 0 to 100", lambda given: type(given) is int and 0 <= given <= 100),
-    "ties": ('"first" or "idle"', lambda given: given in ("first", "idle")),
-    "temperature": ("a number from 0 to 1,000", lambda given: type(given) in (int, float) and 0 <= given <= 1000),
+    "search": one_of(USUAL),
+    "partial": (f"a whole number from 0 to {MOST_PASSES}",
+                lambda given: type(given) is int and 0 <= given <= MOST_PASSES),
+    "ties": one_of(TIES),
+    "temperature": (f"a number from 0 to {MOST_TEMPERATURE:,}",
+                    lambda given: type(given) in (int, float) and 0 <= given <= MOST_TEMPERATURE),
     "command": ("a command", lambda given: isinstance(given, str) and "\0" not in given),
     "anytime": ("true or false", lambda given: type(given) is bool),
     "method": ("a name without control characters",
                lambda given: isinstance(given, str) and given != "" and given.isprintable())}
 # The defaults of lists of numbers.
-NUMBERS = {"blocks": [1], "rounds": [0], "takes": None, "passes": [0], "seeds": [0]}
+NUMBERS = {"blocks": [1], "rounds": [0], "takes": None, "passes": [USUAL["solve"].passes], "seeds": [0]}
 # What a method may have that a plan lists in `methods`, and what is for the whole plan.
 OF_METHOD = {"rounds", "takes", "passes", "seeds", "repetitions", "time_factors", "search", "partial", "ties",
              "temperature", "command", "method", "files", "grid", "anytime"}
@@ -123,8 +131,8 @@ def method_of(path: str, plan: dict[str, Any]) -> dict[str, Any]:
     for key, (what, is_right) in VALUES.items():
         require(key not in plan or is_right(plan[key]), path, f"{key} must be {what}")
     full: dict[str, Any] = {"repetitions": 1, "method": "", **NUMBERS, **plan}
-    if is_iterated(plan) and "passes" not in plan:
-        full["passes"] = [100]
+    if "passes" not in plan:
+        full["passes"] = [usual_of(plan).passes]
     for key in OF_ITERATED:
         require(key not in plan or is_iterated(plan), path, f'{key} needs search = "iterated-greedy"')
     if "time_factors" in plan:
@@ -139,6 +147,11 @@ def method_of(path: str, plan: dict[str, Any]) -> dict[str, Any]:
 def is_iterated(method: dict[str, Any]) -> bool:
     """Whether a method is the search of the library that also accepts longer orders."""
     return method.get("search") == "iterated-greedy"
+
+
+def usual_of(method: dict[str, Any]) -> Usual:
+    """Returns the defaults of a method."""
+    return USUAL[method.get("search", "solve")]
 
 
 def command_of(path: str, plan: dict[str, Any]) -> dict[str, Any]:

@@ -3,6 +3,7 @@ deviations (RPD). Runs that failed are only counted."""
 from __future__ import annotations
 
 import argparse
+import functools
 import itertools
 import math
 import os
@@ -19,13 +20,15 @@ import pandas as pd
 from matplotlib.figure import Figure
 from matplotlib.ticker import NullLocator
 
-from pfs._atomic import atomic_write, text_cell
-from pfs._benchmarks import canonical, taillard_rows
-from pfs._drawing import picture_of
+from pfs.base.atomic import atomic_write, text_cell
+from pfs.base.benchmarks import canonical, taillard_rows
+from pfs.base.version import VERSION
 from pfs.experiments import ExperimentError, csv_text, listed, plain, statistics
+from pfs.experiments.folders import check_output, folder_of, write_text
 from pfs.experiments.plan import MOST_MAKESPAN, reference_for, reference_of, rows_of
-from pfs.experiments.stage import check_output, write_text
+from pfs.experiments.run import path_cell, proofs_of
 from pfs.experiments.statistics import SETTING, SIZE, setting_names, size_name
+from pfs.schedules.drawing import picture_of
 
 # The tables that are written as CSV.
 TABLES = ("table", "instances", "best", "comparison", "ranks", "sizes")
@@ -106,9 +109,9 @@ def read(paths: list[str], reference_path: str | None) -> tuple[pd.DataFrame, st
                      ignore_index=True)
     try:
         from pfs.experiments.audit import orders_of
-        runs["order"] = orders_of(runs["row"].tolist())
+        runs["order"], runs["own_bound"] = orders_of(runs["row"].tolist())
     except ImportError:  # no library, and no audit
-        runs["order"] = ""
+        runs["order"], runs["own_bound"] = "", float("nan")
     runs["audited"] = runs["order"] != ""
     lasts = runs["instance"].map(canonical)
     if len(paths) > 1 and runs["instance"].groupby([runs["method"], lasts]).nunique().max() == 1:
@@ -116,8 +119,11 @@ def read(paths: list[str], reference_path: str | None) -> tuple[pd.DataFrame, st
     runs[SIZE] = runs[SIZE].fillna(runs.groupby("instance")[SIZE].transform("first"))
     taillards = taillards_of(runs)
     runs[SIZE] = runs[SIZE].fillna(taillards[SIZE])
+    proofs = [proofs_by(path).get(name, {}) for path, name in zip(runs["path"], runs["given"])]
+    runs["proved"] = [float(proof.get("bound", "nan")) for proof in proofs]
+    runs["optimum"] = runs["proved"].where([proof.get("bound") == proof.get("makespan") for proof in proofs])
     check_bounds(runs, taillards["bound"])
-    runs["optimal"] = runs["makespan"] == runs[["bound", "proved_bound"]].max(axis=1)
+    runs["optimal"] = runs["makespan"] == runs[["own_bound", "proved"]].max(axis=1)
     runs["reference"], basis = references(runs, taillards["best"], reference_path)
     rpds = 100 * (runs["makespan"] - runs["reference"]) / runs["reference"]
     runs["rpd"] = rpds.mask(runs["makespan"] == runs["reference"], 0).replace(float("inf"), float("nan"))
@@ -133,6 +139,12 @@ def read(paths: list[str], reference_path: str | None) -> tuple[pd.DataFrame, st
     return runs.fillna(dict.fromkeys(GROUP, -1)), note
 
 
+@functools.cache
+def proofs_by(path: str) -> dict[str, Any]:
+    """Returns what `prove` has proved next to a CSV, by the instances' names in it."""
+    return {path_cell(name): {**proof} for name, proof in proofs_of(folder_of(path)).items()}
+
+
 def published(path: str) -> pd.DataFrame:
     """Returns published means of the RPD, with a row for each size and a column for each method."""
     read = pd.DataFrame({"method": "", **row} for row in rows_of(path, [*SIZE, "rpd"]))
@@ -146,7 +158,7 @@ def read_one(path: str, name: str) -> pd.DataFrame:
     read = pd.DataFrame({**usual, **row, "path": path, "line": str(line)}
                         for line, row in enumerate(rows_of(path, ["instance", "makespan"]), 2))
     read.loc[read["status"].ne("ok") | read["makespan"].eq(""), ["makespan", "cells", "gap_percent", "seconds"]] = ""
-    runs = read[["instance", "seed"]].assign(method=read["method"].replace("", name), row=read.to_dict("records"))
+    runs = read[["instance", "seed", "path"]].assign(given=read["instance"], method=read["method"].replace("", name), row=read.to_dict("records"))
     runs = runs.join(numbers_in(read, list(GREATEST), path))
     runs["way"] = [way_of(*row) for row in zip(read["trajectory"], runs["makespan"], read["line"], read["path"])]
     runs.loc[runs["time_factor"].notna(), "rounds"] = float("nan")
@@ -187,7 +199,7 @@ def taillards_of(runs: pd.DataFrame) -> pd.DataFrame:
 
 def check_bounds(runs: pd.DataFrame, taillards: pd.Series) -> None:
     """Rejects a makespan below the bound that a CSV has for its instance, or that of Taillard's instance."""
-    stated = runs[["bound", "proved_bound"]].max(axis=1).groupby(runs["instance"]).transform("max")
+    stated = runs[["bound", "proved_bound", "proved"]].max(axis=1).groupby(runs["instance"]).transform("max")
     bounds = pd.concat([stated, taillards], axis=1).max(axis=1)
     for _, run in runs[runs["makespan"] < bounds].iterrows():
         raise ExperimentError(f"{run['method']}: the makespan {run['makespan']:.0f} of {run['instance']} is below the "
@@ -209,13 +221,15 @@ def references(runs: pd.DataFrame, taillards: pd.Series, path: str | None) -> tu
     done = runs[runs["makespan"].notna()]
     stated = reference_of(path) if path else {}
     kinds = pd.DataFrame({
+        f"the optimum that pfs {VERSION} has proved": done.groupby("instance")["optimum"].transform("first"),
         f"the makespan in {path}": done["instance"].map({name: found[0] for name in done["instance"].unique()
                                                          for found in [reference_for(stated, name)] if found}),
         "the makespan in the column `reference`": done.groupby("instance")["reference"].transform("first"),
         "the best known makespan of Taillard's instance": taillards[done.index]}, dtype=float)
-    found, given = kinds.bfill(axis=1).iloc[:, 0], kinds.notna()
-    used = (given & (given.cumsum(axis=1) == 1)).any()
-    used.iloc[0] |= path is not None
+    # An optimum, or else the least that is known.
+    found = kinds.iloc[:, 0].fillna(kinds.iloc[:, 1:].min(axis=1))
+    used = (kinds.eq(found, axis=0) & (kinds.eq(found, axis=0).cumsum(axis=1) == 1)).any()
+    used.iloc[1] |= path is not None
     if not used.any():
         best_of_runs = done.groupby("instance")["makespan"].transform("min")
         return best_of_runs.reindex(runs.index), "RPD: relative to the best makespan of any of these runs."
@@ -230,7 +244,7 @@ def table_of(runs: pd.DataFrame) -> pd.DataFrame:
         runs=("makespan", "count"), failed=("makespan", lambda spans: spans.isna().sum()), audited=("audited", "sum"),
         mean_rpd_percent=("rpd", "mean"), greatest_rpd_percent=("rpd", "max"), mean_gap_percent=("gap_percent", "mean"),
         greatest_gap_percent=("gap_percent", "max"), mean_seconds=("seconds", "mean"), optimal=("optimal", "sum"))
-    return table.drop(columns=[] if runs["proved_bound"].notna().any() else "optimal").reset_index()
+    return table.drop(columns=[] if runs["proved"].notna().any() else "optimal").reset_index()
 
 
 def by_instance(done: pd.DataFrame) -> pd.DataFrame:
@@ -568,6 +582,6 @@ def differences(shared: pd.DataFrame, width: float | None) -> Figure | None:
     first = shown(found["first"].iloc[0])
     figure.supxlabel(wrapped(f"RPD minus that of {first}, %" if found["first"].nunique() == 1 else
                              "RPD minus that of the first setting, %", width - 0.4))
-    figure.suptitle(wrapped("Mean differences, paired by instance and seed, with confidence intervals of 95 %",
+    figure.suptitle(wrapped("Mean differences by instance, with confidence intervals of 95 %",
                             width - 0.4))
     return figure

@@ -13,8 +13,8 @@ import sys
 import tempfile
 import webbrowser
 
-from pfs._cli import CommandLine, Misused, ShowVersion, number, run
-from pfs._optional import optional
+from pfs.base.optional import optional
+from pfs.commands.cli import CommandLine, Misused, ShowVersion, number, run
 
 # A shorter token can be guessed.
 TOKEN = re.compile(r"[A-Za-z0-9_-]{20,200}")

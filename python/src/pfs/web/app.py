@@ -13,8 +13,8 @@ from urllib.parse import urlsplit
 from flask import Flask, Response, request, send_file
 from werkzeug.exceptions import HTTPException
 
-from pfs._chart import policy_of
-from pfs._wording import as_controls
+from pfs.base.wording import as_controls
+from pfs.schedules.chart import policy_of
 from pfs.web import plans
 from pfs.web.apart import Apart, Wrong
 from pfs.web.searches import Searches

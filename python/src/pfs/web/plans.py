@@ -3,26 +3,20 @@ are called apart (`pfs.web.apart`)."""
 from __future__ import annotations
 
 import base64
-import csv
-import io
 import pathlib
 import zipfile
-from argparse import Namespace
 from typing import Any
 
-from pfs import _tables as tables
-from pfs._calendar import Clock, needed, text_of
-from pfs._commands import calendar_of, draw, ended_at, span_text, write_schedule
-from pfs._faults import TableFault
-from pfs._instance import Instance
-from pfs._names import amount, shown
-from pfs._now import left_at
-from pfs._orders import FoundOrder, filled, moved, numbers_by_name
-from pfs._report import rows_of
-from pfs._solution import Solution
-from pfs._wording import as_controls
-from pfs._words import words_of
-from pfs._workbooks import MOST_ROWS, Workbook
+from pfs.base.faults import TableFault
+from pfs.base.languages import words_of
+from pfs.base.names import shown
+from pfs.base.wording import as_controls
+from pfs.base.workbooks import MOST_ROWS, Workbook
+from pfs.files import tables
+from pfs.plan.orders import moved, numbers_by_name
+from pfs.plan.plan import Plan, calendar_of
+from pfs.schedules.calendar import needed, text_of
+from pfs.shops.instance import Instance
 from pfs.web.apart import Wrong
 
 # The most times of a table, faults that are listed, and letters of a text.
@@ -56,7 +50,7 @@ def read(given: dict[str, Any], folder: str) -> dict[str, Any]:
     """What is said of a table: of a file, which comes with its rows, or of rows that were changed."""
     options = field(given, "options", dict, {})
     if "content" not in given:
-        return read_rows(given.get("rows"), options)
+        return shop_of(rows_from(given.get("rows")), options)
     content = base64.b64decode(field(given, "content", str, "", 2**23), validate=True)
     name, sheet = field(given, "name", str, ""), field(options, "sheet", str)
     faults, sheets, marked = list[TableFault](), list[str](), None
@@ -68,14 +62,14 @@ def read(given: dict[str, Any], folder: str) -> dict[str, Any]:
     else:
         table = tables.text_of(content, name, faults)
     delimiter = tables.delimiter_of(table)
-    rows = [[line, cells] for line, cells in tables.records(table, name, delimiter)]
+    rows = [*tables.records(table, name, delimiter)]
     if len(rows) > tables.MOST_ROWS:
         raise Wrong(f"the table has more than {tables.MOST_ROWS:,} rows")
     return {"rows": rows, "delimiter": delimiter, "texts": marked, "sheets": sheets, "sheet": sheet,
-            "isOther": bool(faults), **read_rows(rows, {**options, "delimiter": delimiter, "texts": marked})}
+            "isOther": bool(faults), **shop_of(rows, {**options, "delimiter": delimiter, "texts": marked})}
 
 
-def read_rows(rows: Any, options: dict[str, Any]) -> dict[str, Any]:
+def shop_of(rows: list[tuple[int, list[str]]], options: dict[str, Any]) -> dict[str, Any]:
     """The shop of a table, or its faults by their cells. A workbook's has `texts`, the cells that aren't numbers."""
     marked = field(options, "texts", list)
     if marked and not all(type(each) is list and [*map(type, each)] == [int, int] for each in marked):
@@ -84,34 +78,31 @@ def read_rows(rows: Any, options: dict[str, Any]) -> dict[str, Any]:
     if delimiter not in (",", ";", "\t"):
         raise OTHER_FORM
     try:
-        table = tables.table_in(
-            text_from(rows, delimiter).encode(), "table", field(options, "unit", str, ""),
-            field(options, "decimal", str) or None, field(options, "totals", bool, False), machines or None,
-            None, field(options, "decimals", int),
+        shop, rounded = tables.table_in(
+            lambda: rows, "table", delimiter, field(options, "unit", str, ""), field(options, "decimal", str) or None,
+            field(options, "totals", bool, False), machines, field(options, "decimals", int),
             None if marked is None else {(line, column) for line, column in marked})
     except TableFault as fault:
         found = [{"line": each.line, "column": each.column, "text": as_controls(each.text)}
                  for each in (fault, *fault.others)]
         return {"faults": found[:MOST_FAULTS], "more": len(found[MOST_FAULTS:]),
                 "suggested": tables.likely_machines(rows)}
-    shop = table.shop
-    return {"faults": [], "more": 0, "suggested": [], "rounded": table.rounded,
+    return {"faults": [], "more": 0, "suggested": [], "rounded": rounded,
             "shop": {"jobs": shop.job_names, "machines": shop.machine_names, "unit": shop.unit,
                      "decimals": shop.decimals, "times": shop.times.tolist()}}
 
 
-def text_from(rows: Any, delimiter: str) -> str:
-    """The rows of the page, each with its line, as CSV. The delimiter shows a table's decimal sign."""
-    out, before = io.StringIO(f"sep={delimiter}\n"), 0
-    out.seek(0, io.SEEK_END)
-    writer = csv.writer(out, delimiter=delimiter)
+def rows_from(rows: Any) -> list[tuple[int, list[str]]]:
+    """The rows of the page that aren't empty, each with its line."""
+    before, found = 0, list[tuple[int, list[str]]]()
     for row in rows if type(rows) is list else [None]:
         if type(row) is not list or len(row) != 2 or type(row[0]) is not int or not before < row[0] <= MOST_ROWS:
             raise OTHER_FORM
-        out.write("\n" * (row[0] - before - 1))
-        writer.writerow(texts(row[1]) or [""])
-        before = row[0]
-    return out.getvalue()
+        before, cells = row[0], tables.texts_in(texts(row[1]))
+        if len(cells) > tables.MOST_CELLS:
+            raise OTHER_FORM
+        found += [(before, cells)] if any(cells) else []
+    return found
 
 
 def shop_from(given: dict[str, Any]) -> Instance:
@@ -128,54 +119,48 @@ def shop_from(given: dict[str, Any]) -> Instance:
 
 # Plans
 
-def order_from(shop: Instance, names: list[str], held: int) -> tuple[list[int], dict[str, list[str]]]:
-    """The order with these names, the names that the table lacks, and those that the names lack, which are inserted
-    where they are best after the first ones."""
-    numbers = numbers_by_name(shop)
-    order = list(dict.fromkeys(numbers[name] for name in names if name in numbers))
-    new = filled(shop, order, min(held, len(order)))
-    return order, {"gone": [name for name in names if name not in numbers], "new": [*map(shop.job_name, new)]}
+def placed(plan: Plan, names: list[str], held: int) -> dict[str, list[str]]:
+    """Give the jobs with these names their places, and return the names that the table lacks, and those that the names
+    lack, which are inserted where they are best after the first ones."""
+    numbers = numbers_by_name(plan.shop)
+    plan.order = list(dict.fromkeys(numbers[name] for name in names if name in numbers))
+    plan.held = plan.order[:held]
+    new = plan.fill()
+    plan.held = plan.order[:held]
+    return {"gone": [name for name in names if name not in numbers], "new": [*map(plan.shop.job_name, new)]}
 
 
-class Plan:
-    """A plan of a request: its shop, its order with the greatest bound that is known, and its dates."""
-
-    def __init__(self, given: dict[str, Any]) -> None:
-        shop = self.shop = shop_from(given)
-        order, self.others = order_from(shop, texts(given.get("order")), field(given, "held", int, 0, shop.jobs))
-        self.schedule = self.shop.schedule(order)
-        self.best = Solution(self.schedule.order, self.schedule.makespan)
-        self.best.bound = min(max(self.shop.bound(), field(given, "least", int, 0, 2**53)), self.best.makespan)
-        # A line has a shift; a comma is between days and dates.
-        begin, shifts, days, closed = (field(field(given, "calendar", dict, {}), name, str, "").strip() or ()
-                                       for name in ("begin", "shifts", "days", "closed"))
-        lines = [line for line in map(str.strip, shifts.split("\n")) if line] if shifts else ()
-        self.calendar = calendar_of(Namespace(begin=begin, shift=lines, days=days, closed=closed))
-        # It can't name a file.
-        self.language = "de" if field(given, "language", str) == "de" else "en"
-
-    def draw(self, path: pathlib.Path) -> None:
-        draw(self.shop, self.best, str(path), self.calendar, self.shop.name or True, self.language)
+def plan_from(given: dict[str, Any]) -> tuple[Plan, dict[str, Any]]:
+    """The plan of a request, and what is said of it: the names of jobs that are gone or new, and whether what the page
+    remembers is of another table."""
+    plan = Plan(shop := shop_from(given))
+    said: dict[str, Any] = placed(plan, texts(given.get("order")), field(given, "held", int, 0, shop.jobs))
+    said["isOther"] = not plan.know(field(given, "least", int, 0, 2**53), field(given, "of", str, ""))
+    # A line has a shift; a comma is between days and dates.
+    begin, shifts, days, closed = (field(field(given, "calendar", dict, {}), name, str, "").strip()
+                                   for name in ("begin", "shifts", "days", "closed"))
+    plan.calendar = calendar_of(begin, [*filter(None, map(str.strip, shifts.split("\n")))], days, closed)
+    # It can't name a file.
+    plan.language = "de" if field(given, "language", str) == "de" else "en"
+    return plan, said
 
 
 def told(given: dict[str, Any], folder: str) -> dict[str, Any]:
     """What a plan comes to, with its chart, and the jobs that have moved from orders that were kept."""
-    plan, chart = Plan(given), pathlib.Path(folder, "chart.html")
-    shop, report, span = plan.shop, plan.schedule.report(), plan.schedule._texts(plan.calendar)
-    _, *end = ended_at(shop, plan.best, None if plan.calendar is None else Clock(plan.calendar, shop))
-    heads, *machines = rows_of(report, lambda time: amount(time, shop.decimals, shop.unit))
-    plan.draw(chart)
-    return {**quality(shop, plan.best), **plan.others,
-            "end": end[0].removeprefix("end ") if end else "", "bottleneck": report.bottleneck, "machines": machines,
-            "heads": [*map(words_of(plan.language), heads)],
-            "moved": [moved([job.name for job in report.jobs], texts(each)) for each in field(given, "kept", list, [])],
-            "jobs": [[each.name, *span(each.start, each.end)] for each in report.jobs],
-            "chart": chart.read_text("utf-8")}
+    (plan, said), chart = plan_from(given), pathlib.Path(folder, "chart.html")
+    jobs, (heads, *machines), (_, *end) = plan.jobs(), plan.machines(), plan.ends()
+    plan.chart(str(chart), plan.shop.name or True)
+    return {**quality(plan), **said, "table": plan.table,
+            "end": end[0].removeprefix("end ") if end else "", "bottleneck": plan.report.bottleneck,
+            "machines": machines, "heads": [*map(words_of(plan.language), heads)],
+            "moved": [moved([name for name, *_ in jobs], texts(each)) for each in field(given, "kept", list, [])],
+            "jobs": jobs, "chart": chart.read_text("utf-8")}
 
 
-def quality(shop: Instance, best: Solution) -> dict[str, Any]:
+def quality(plan: Plan) -> dict[str, Any]:
     """A makespan, and how far above the shortest one it may be, in percent."""
-    return {"makespan": span_text(shop, best.makespan), "span": best.makespan, "bound": span_text(shop, best.bound),
+    best = plan.best
+    return {"makespan": plan.span(best.makespan), "span": best.makespan, "bound": plan.span(best.bound),
             "isOptimal": best.optimal, "above": round(100 * (best.makespan - best.bound) / max(1, best.bound), 1)}
 
 
@@ -183,27 +168,27 @@ def file(given: dict[str, Any], folder: str) -> bytes:
     """A plan as a file of this kind."""
     if (kind := given.get("kind")) not in ("csv", "html", "pdf", "txt", "xlsx", "zip"):
         raise OTHER_FORM
-    plan, path = Plan(given), pathlib.Path(folder, f"plan.{kind}")
+    (plan, _), path = plan_from(given), pathlib.Path(folder, f"plan.{kind}")
     if kind == "txt":
-        path.write_text("".join(f"{shown(job.name)}\n" for job in plan.schedule.report().jobs), "utf-8")
+        path.write_text("".join(f"{shown(plan.shop.job_name(job))}\n" for job in plan.order), "utf-8")
     elif kind in ("html", "pdf"):
-        plan.draw(path)
+        plan.chart(str(path), plan.shop.name or True)
     elif kind != "zip":
-        write_schedule(plan.shop, plan.best, str(path), ";", True, plan.calendar, plan.language)
+        plan.write(str(path), ";", True)
     else:
         with zipfile.ZipFile(path, "w", zipfile.ZIP_DEFLATED) as archive:
-            for each in plan.schedule.to_ics(pathlib.Path(folder, "plan.ics"), needed(plan.calendar, "a calendar")):
+            for each in plan.write(str(pathlib.Path(folder, "plan.ics")), ";", True):
                 archive.write(each, pathlib.Path(each).name)
     return path.read_bytes()
 
 
 def rest(given: dict[str, Any], folder: str) -> dict[str, Any]:
     """The table of what is left of a plan at a moment, with its order and the date from which on it is planned."""
-    plan, down = Plan(given), field(given, "down", dict, {})
+    (plan, _), down = plan_from(given), field(given, "down", dict, {})
     until = [(machine, field(down, machine, str, "")) for machine in down]
-    (left, held, done), begin = left_at(plan.shop, FoundOrder(plan.best.order.tolist(), {}),
-                                        needed(plan.calendar, "`now`"), field(given, "at", str, ""), until)
-    rows: list[Any] = [[line, row] for line, row in enumerate(tables.text_rows(left), 1)]
-    return {"rows": rows, "delimiter": ",", "order": left.job_names, "held": held, "done": done,
-            "begin": text_of(begin, 0).replace(" ", "T"),
-            **read_rows(rows, {"totals": True, "machines": rows[0][1][1:]})}
+    needed(plan.calendar, "`now`")
+    left, done = plan.rest(field(given, "at", str, ""), until)
+    rows = [*enumerate(tables.text_rows(left.shop), 1)]
+    return {"rows": rows, "delimiter": ",", "order": left.shop.job_names, "held": len(left.held), "done": done,
+            "begin": text_of(needed(left.calendar, "`now`").begin, 0).replace(" ", "T"),
+            **shop_of(rows, {"totals": True, "machines": rows[0][1][1:]})}

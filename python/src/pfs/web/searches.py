@@ -8,11 +8,9 @@ import time
 from queue import SimpleQueue
 from typing import Any
 
-from pfs._commands import span_text
-from pfs._proof import EARLY, is_small
-from pfs._solution import Solution
+from pfs.plan.plan import Limits, Plan
 from pfs.web.apart import Wrong
-from pfs.web.plans import field, order_from, quality, shop_from, texts
+from pfs.web.plans import field, placed, quality, shop_from, texts
 
 # Seconds without a question after which a search ends, of the longest search, and of a proof after a search.
 FORGET, MOST_SECONDS, PROOF = 20.0, 600, 1.0
@@ -24,13 +22,13 @@ class Run:
     """A search of a planner."""
 
     def __init__(self, given: dict[str, Any], client: str) -> None:
-        self.shop, self.client = shop_from(given), client
+        self.plan, self.client = Plan(shop_from(given)), client
         self.names = texts(field(given, "order", list, []))
-        self.held, self.seed = field(given, "held", int, 0, self.shop.jobs), field(given, "seed", int, 0, 2**53)
+        self.held, self.seed = field(given, "held", int, 0, self.plan.shop.jobs), field(given, "seed", int, 0, 2**53)
         self.seconds = min(MOST_SECONDS, field(given, "seconds", int, 0, 10**6))
         self.ended, self.asked, self.begun = threading.Event(), time.monotonic(), 0.0
         self.state, self.makespan, self.rounds = "waiting", 0, 0
-        self.best: Solution | None = None
+        self.is_found = False
         self.fault: Exception | None = None
 
     def is_left(self) -> bool:
@@ -50,16 +48,15 @@ class Run:
             return
         self.state, self.begun = "searching", time.monotonic()
         try:
-            start = order_from(self.shop, self.names, self.held)[0] if self.names else None
-            held = (start or [])[:self.held]
-            best = None if held or not is_small(self.shop) else self.shop.optimum(EARLY, start=start, stop=self)
-            self.best = best if best and best.optimal else self.shop.solve(
-                method="iterated-greedy", seed=self.seed, start=start, hold=held, stop=self, time_limit=self.seconds,
-                progress=self.progress, prove=None if held else PROOF)
+            if self.names:
+                placed(self.plan, self.names, self.held)
+            self.plan.solve(self.plan.search(self.seed), Limits(None, self.seconds, PROOF), self.progress, self)
+            self.is_found = True
         except Exception as error:
             self.fault = error
         self.state = "done"
-        logging.info("search: %d jobs, %d machines, %d rounds", self.shop.jobs, self.shop.machines, self.rounds)
+        shop = self.plan.shop
+        logging.info("search: %d jobs, %d machines, %d rounds", shop.jobs, shop.machines, self.rounds)
 
     def told(self, place: int) -> dict[str, Any]:
         """How far it is. `place` is that in the queue."""
@@ -67,11 +64,12 @@ class Run:
             raise self.fault
         found = {"state": self.state, "place": place, "rounds": self.rounds, "limit": self.seconds,
                  "seconds": round(time.monotonic() - self.begun, 1) if self.begun else 0.0}
-        if self.best is None:
-            return {**found, "makespan": span_text(self.shop, self.makespan) if self.makespan else "",
-                    "bound": span_text(self.shop, self.shop.bound())}
-        order = [self.shop.job_name(job) for job in self.best.order.tolist()]
-        return {**found, **quality(self.shop, self.best), "order": order, "least": self.best.bound}
+        plan = self.plan
+        if not self.is_found:
+            return {**found, "makespan": plan.span(self.makespan) if self.makespan else "",
+                    "bound": plan.span(plan.shop.bound())}
+        order = [plan.shop.job_name(job) for job in plan.order]
+        return {**found, **quality(plan), "order": order, "least": plan.best.bound, "of": plan.table}
 
 
 class Searches:

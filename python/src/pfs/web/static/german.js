@@ -42,6 +42,8 @@ const GERMAN = {
   "waits for a processor, place {place}": "wartet auf einen Prozessor, Platz {place}",
   "{makespan} so far, no order is below {bound}; {left} s left":
     "bisher {makespan}, unter {bound} geht es nicht; noch {left} s",
+  "of another table": "einer anderen Tabelle",
+  "what was proved is of another table": "was bewiesen ist, gilt für eine andere Tabelle",
   "finished": "fertig", "optimal: no order is shorter": "optimal: keine Reihenfolge ist kürzer",
   "at most {above} % above the shortest: no order is below {bound}":
     "höchstens {above} % über der kürzesten: unter {bound} geht es nicht",

@@ -4,8 +4,8 @@ sessionStorage.setItem("token", token);
 history.replaceState(null, "", location.pathname);
 const MOST = 6e6, TOO_LARGE = tr("The table is too large: 6 MB are the most.");
 // The document, which survives a reload. What the server said of its table and of its plan, and the search that runs.
-const blank = name => ({name, delimiter: ",", rows: [], texts: null, machines: [], order: null, held: 0, least: 0,
-                        plans: [], seed: 0, controls: {}});
+const blank = name => ({name, delimiter: ",", rows: [], texts: null, machines: [], order: null, held: 0,
+                        least: 0, of: "", plans: [], seed: 0, controls: {}});
 let doc = blank(""), asked = 0, readings = 0, content, read, now, running;
 
 async function ask(path, body, method = body ? "POST" : "GET") {
@@ -64,8 +64,6 @@ async function again() {
   if (turn === readings) { show(found); await evaluate(); }
 }
 function show(found) {
-  // What was proved of another table says nothing of this one.
-  if (read && JSON.stringify(read.shop) !== JSON.stringify(found.shop)) doc.least = 0;
   // The row of the names is the first one that has the machines, or more than one name.
   read = {...found, wide: Math.max(...doc.rows.map(([, row]) => row.length)),
     wrong: new Map(found.faults.map(each => [`${each.line},${each.column}`, fault(each.text)])),
@@ -165,8 +163,8 @@ function heldNow() {
   const jobs = new Set(read.shop.jobs);
   return (doc.order || []).slice(0, doc.held).filter(each => jobs.has(each)).length;
 }
-const plan = more => ({shop: read.shop, order: doc.order, held: heldNow(), least: doc.least, calendar: calendar(),
-                       language, kept: doc.plans.map(each => each.order),
+const plan = more => ({shop: read.shop, order: doc.order, held: heldNow(), least: doc.least, of: doc.of,
+                       calendar: calendar(), language, kept: doc.plans.map(each => each.order),
                        title: byId("title").value || doc.name, ...more});
 byId("plan").onclick = doing(async () => {
   const {shop} = read, {rows} = doc;
@@ -185,7 +183,7 @@ byId("plan").onclick = doing(async () => {
         tr("{makespan} so far, no order is below {bound}; {left} s left", {...told,
           left: Math.max(0, Math.ceil(told.limit - told.seconds))});
       if (told.order) doc.order = told.order;
-      if (told.order && shop === read.shop) doc.least = told.least;
+      if (told.order && shop === read.shop) [doc.least, doc.of] = [told.least, told.of];
       else await new Promise(done => setTimeout(done, 300));
     }
     await evaluate();
@@ -220,7 +218,8 @@ async function evaluate() {
     [now.new, tr("new, and inserted where they are best:")]].filter(([names]) => names.length);
   byId("ends").textContent = [now.makespan + (now.end && `, ${tr("finished")} ${now.end}`), now.isOptimal
     ? tr("optimal: no order is shorter") : tr("at most {above} % above the shortest: no order is below {bound}", now),
-    ...others.map(([names, text]) => `${text} ${names.join(", ")}`)].join("; ");
+    ...others.map(([names, text]) => `${text} ${names.join(", ")}`),
+    ...now.isOther ? [tr("what was proved is of another table")] : []].join("; ");
   byId("chart").srcdoc = now.chart;
   byId("now").value ||= now.end && now.jobs[0][1].replace(" ", "T").slice(0, 16);
   byId("machines").replaceChildren(rowOf([...now.heads, tr("down until")], null, "th"));
@@ -287,7 +286,7 @@ byId("rest").onclick = doing(async () => {
   const found = await ask("/api/rest", plan({at: byId("now").value, down}));
   restore({unit: "", decimal: "", decimals: "", begin: found.begin, totals: true, now: ""});
   doc = {...doc, rows: found.rows, delimiter: found.delimiter, texts: null, machines: [], order: found.order,
-         held: found.held};
+         held: found.held, least: 0};
   content = null;
   readings += 1;
   show(found);
@@ -300,7 +299,7 @@ byId("rest").onclick = doing(async () => {
 byId("keep").onclick = doing(() => {
   const {makespan, end, span, jobs} = now, number = doc.plans.length + 1;
   const title = byId("title").value || tr("Plan {number}", {number});
-  doc.plans.push({title, order: doc.order, held: doc.held, calendar: calendar(), makespan, end, span,
+  doc.plans.push({title, table: now.table, order: doc.order, held: doc.held, calendar: calendar(), makespan, end, span,
                   ends: Object.fromEntries(jobs.map(([name, , last]) => [name, last]))});
   return evaluate();
 });
@@ -315,10 +314,12 @@ function drawPlans() {
   moves.show(doc.plans.length ? doc.order.length : 0);
   byId("plans").replaceChildren(...doc.plans.length ? [rowOf(["plan", "makespan", "finished", "jobs that move", ""]
     .map(text => tr(text)), null, "th")] : []);
-  const least = Math.min(...doc.plans.map(each => each.span));
+  const isOwn = each => each.table === now.table;
+  const least = Math.min(...doc.plans.filter(isOwn).map(each => each.span));
   doc.plans.forEach((each, at) => {
-    const row = rowOf([each.title, each.makespan, each.end, now.moved[at].length], byId("plans"));
-    row.className = each.span === least ? "best" : "";
+    const title = isOwn(each) ? each.title : `${each.title} (${tr("of another table")})`;
+    const row = rowOf([title, each.makespan, each.end, now.moved[at].length], byId("plans"));
+    row.className = isOwn(each) && each.span === least ? "best" : "";
     const cell = made("td", null, row);
     made("button", tr("Show"), cell, {onclick: doing(() => {
       doc = {...doc, order: each.order, held: each.held};

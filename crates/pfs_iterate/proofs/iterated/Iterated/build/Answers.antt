@@ -3,7 +3,7 @@ use Rattle.std.proofs.lemmas.List.{length-append}
 use Rattle.pfs_order.specs.Sequence.{IsSequence, Sequence}
 use Rattle.pfs_order.proofs.Published.Sequences.{IsSequence-rest, length-le-size}
 use Rattle.pfs_iterate.specs.Alone.{by_ties, with_more}
-use Rattle.pfs_iterate.proofs.Shorter.{improved_shorter}
+use Rattle.pfs_iterate.proofs.Shorter.{settled_shorter}
 use Rattle.pfs_iterate.proofs.iterated.Iterated.build.Goals as goal
 
 rest_is : (size : ℕ) (more jobs : List ℕ) → IsSequence size (more ++ jobs) → IsSequence size jobs
@@ -56,5 +56,5 @@ returns-clause-built c =
       distinct = sequence_found;
       spanned = c.improve-span.ensures.span;
       no_longer = rw (← inserted, c.improve-span.ensures.span, c.improve-span.ensures.jobs, options)
-          (improved_shorter shop (by_ties c.args.ties) list c.args.passes made.jobs sequence);
+          (settled_shorter shop (by_ties c.args.ties) list c.args.passes made.jobs sequence);
     })

@@ -12,6 +12,9 @@ returns-then-accepts-clause-ready c =
       current = search rules;
       best = search rules;
       front = search rules;
-      free = rw (c.copy_from-then-accepts.ensures, same_count c.args.options.now.held c.args.stay.now old
-          c.find-span.new.work.seq.jobs found.front found.staying (found.all ∙ sym ready.current.all)) ready.free;
+      free = rw (
+        c.copy_from-then-accepts.ensures,
+        same_count c.args.options.now.held c.args.stay.now old
+            c.find-span.new.work.seq.jobs found.front found.staying (found.all ∙ sym ready.current.all),
+      ) ready.free;
     }

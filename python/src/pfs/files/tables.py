@@ -1,0 +1,749 @@
+"""Tables of times, as spreadsheets export them."""
+from __future__ import annotations
+
+import codecs
+import csv
+import os
+import re
+import warnings
+from collections.abc import Callable, Iterable, Iterator, Sequence
+from functools import cached_property, partial
+from itertools import islice
+from typing import NamedTuple, TypeAlias
+
+import numpy as np
+
+from pfs.base.atomic import atomic_write, csv_writer, text_cell, text_in_cell
+from pfs.base.faults import TableFault, cell_name
+from pfs.base.names import CLOCK, amount, seconds_in
+from pfs.base.workbooks import OPTIONS_SHEET, Workbook, cell_of, write_workbook
+from pfs.binding import library as c
+from pfs.binding.validate import Order, checked_int
+from pfs.files.instances import content_of
+from pfs.shops.instance import Instance
+
+# The most cells of a row, as in spreadsheets, and the most rows, with titles.
+MOST_CELLS, MOST_ROWS = 16_384, 10_000
+LINE = re.compile(r"[^\r\n]*(?:\r\n?|\n)|[^\r\n]+")
+QUOTED = re.compile(r'(?:^|(?<=[,;\t\r])) *(?:"[^"]*")+', re.MULTILINE)
+# A unit in brackets at the end of a name.
+UNIT = re.compile(r"[\[(]([^\[\]()]+)[\])]\Z")
+NUMBER = re.compile(r"([0-9]{1,20})(?:([.,])([0-9]{1,20}))?\Z")
+HOURS = re.compile(r"([0-9]{1,6}):([0-5][0-9])(?::00)?\Z")
+ZERO = re.compile(r"0(?:[.,]0+)?\Z")
+CLOCKS = (CLOCK, "hh:mm")
+MISSING = "the time is missing: write 0 where a job skips a machine (it still waits there for its turn)"
+ONE_UNIT = "use one unit"
+EMPTY_ROW = "the row has no times: leave it out if it is no job, or write 0 where the job skips a machine"
+ROUND_IT = "round it, or say how many decimals to keep (`decimals`)"
+NO_MACHINE = "leave the column out if it is no machine, or say which columns are machines (`machines`)"
+SECONDS = re.compile(r"[0-9]+:[0-9]{2}:[0-9]{2}")
+SKIPS = "write 0 where a job skips a machine"
+# What isn't a time, and what to write instead.
+HINTS = (
+    (re.compile(r"#[A-Z0-9/]+[!?]?"), "the formula has an error"),
+    (re.compile(r"[-\u2012-\u2015]|n\.?[/.]?a\.?", re.IGNORECASE), SKIPS),
+    (re.compile(r"(?:24|48|72|96|[1-9][0-9]{2,}):00|1900-02-28 .*"), "a cell with the format of a time has a number of "
+     "days: format it as a number, and write the time again"),
+    (HOURS, "other times of the table are numbers: write all of them like this, or none"),
+    (SECONDS, "write hours and minutes, as 1:30, or a number"),
+    (re.compile(r"[0-9]+\s*h\s*[0-9]{2}"), "write hours and minutes as 1:30"),
+    (re.compile(r"[0-9]{1,3}(?:['\u2019\u02bc\s][0-9]{3})+(?:[.,][0-9]+)?"), "leave out thousands separators"),
+    (re.compile(r"[0-9]{1,3}(?:\.[0-9]{3})+,[0-9]+|[0-9]{1,3}(?:,[0-9]{3})+\.[0-9]+"),
+     "leave out thousands separators, or say which decimal sign the table has (`decimal`)"),
+    (re.compile(r"[0-9]+(?:[.,][0-9]+)?\s*[^\W\d]+\.?"), "write the unit in brackets into the first cell of the table"),
+    (re.compile(r"\D+|\d+([./-])\d+\1(?:\d+(?:\s.*)?)?|.*[^\W\d]{3}.*"), NO_MACHINE),
+)
+# A number with thousands separators, which could also be one with three decimals. A number doesn't begin with the group
+# "0", so 0.125 has decimals.
+GROUPED = re.compile(r"(?!0[.,])[0-9]{1,3}(?:([.,])[0-9]{3})(?:\1[0-9]{3})*\Z")
+# Names of rows and columns that have no times of their own: of sums and means, and of columns with quantities.
+TOTALS = (r"(?:sub|grand |zwischen|gesamt)?(?:sums?|totals?|summen?|gesamt\w*|somme|suma|totale|totaal|\u03a3"
+          r"|means?|average|avg|durchschnitt|mittel(?:wert)?|moyenne|media|promedio|gemiddelde|\u00f8)")
+QUANTITIES = (r"|menge|anzahl|st(?:\u00fc|ue)ck(?:zahl)?|stk|quantity|qty|pieces|pcs|quantit\u00e9|qt\u00e9|cantidad"
+              r"|aantal")
+NO_JOB = re.compile(rf"(?:{TOTALS})(?!\w)", re.IGNORECASE)
+NO_TIMES = re.compile(rf"(?:{TOTALS}{QUANTITIES})(?!\w)", re.IGNORECASE)
+# The first cell of a table in which the names may be numbers.
+SAYS_JOB = re.compile(r"(?:(?:jobs?|(?:work)?orders?|wo(?:rk(?!order))?|(?:fertigungs)?auftr(?:ag|\u00e4ge)s?|fa|of"
+                      r"|ordres?|commandes?|pedidos?|ordin[ei]|parts?|lots?|los|teile?|artikel|items?|pos(?:ition)?|id"
+                      r"|nr|no|n(?=\u00b0)|number|nummer|num\u00e9ro)"
+                      r"[\s.#\u00b0_:-]*)*\Z", re.IGNORECASE)
+# The first cell of a table whose rows are machines.
+SAYS_MACHINE = re.compile(r"(?:machines?|maschinen?|m\u00e1quinas?|macchin[ae])\b", re.IGNORECASE)
+# The first bytes of spreadsheets in their own formats, which are archives or compound documents.
+ARCHIVE, COMPOUND = b"PK\x03\x04", b"\xd0\xcf\x11\xe0"
+# Byte order marks.
+MARKS = codecs.BOM_UTF8, codecs.BOM_UTF16_LE, codecs.BOM_UTF16_BE
+TIMES_AS_NAMES = ("the names of the {what}s are numbers, as if the {part} of names were missing: add it, or write "
+                  "`job` into the first cell of the table")
+SAVE_AS = "save it as CSV UTF-8 (Excel), or as CSV with the character set Unicode (UTF-8) (LibreOffice)"
+
+
+# What gives the rows of a table that aren't empty, with their numbers.
+Records: TypeAlias = "Callable[[], Iterable[tuple[int, list[str]]]]"
+
+
+class Table(NamedTuple):
+    """A table that was read."""
+
+    shop: Instance
+    # The separator of the columns.
+    delimiter: str
+    # Whether the file begins with a byte order mark, as Excel's do.
+    has_mark: bool
+    # Which sheet was read, if a workbook has several and none was named, and how many hidden rows and columns it has.
+    note: str
+    # What was rounded, or an empty text.
+    rounded: str
+
+
+class Cell(NamedTuple):
+    """A cell, with its row and its column as spreadsheets count them."""
+
+    line: int
+    column: int
+    text: str
+
+    @property
+    def name(self) -> str:
+        return cell_name(self.line, self.column)
+
+
+class Rows:
+    """A table: its rows that aren't empty, without titles and without empty columns, and its faults so far."""
+
+    def __init__(self, path: str, records: Records, delimiter: str, texts: set[tuple[int, int]] | None,
+                 is_chosen: bool, faults: list[TableFault]) -> None:
+        self.path = path
+        self.records = records
+        self.delimiter = delimiter
+        # The cells of a workbook that are texts, and look like numbers with a separator; None in another table.
+        self.texts = texts
+        # Whether the machines were named.
+        self.is_chosen = is_chosen
+        self.faults = faults
+        # The cell above the jobs, the names of the machines, and those of the jobs.
+        self.corner: Cell
+        self.machines: list[Cell] = []
+        self.jobs: list[Cell] = []
+        # The first cell of each column that isn't a time, and how many there are, for each cause.
+        self.wrong: dict[tuple[int, str], tuple[TableFault, int]] = {}
+
+    @cached_property
+    def heads(self) -> dict[int, str]:
+        """The names of the machines by their columns."""
+        return {head.column: head.text for head in self.machines}
+
+    def fault(self, cell: Cell, text: str) -> TableFault:
+        head = self.heads.get(cell.column, "") if cell.line > self.corner.line else ""
+        return TableFault(self.path, cell.line, cell.column, text, head)
+
+    def report(self, cell: Cell, text: str) -> None:
+        self.faults.append(self.fault(cell, text))
+
+    def times(self) -> Iterator[list[Cell]]:
+        """Read the times again, row by row: all of their cells would take a hundred times the memory of the text."""
+        lines, columns = {job.line for job in self.jobs}, [head.column for head in self.machines]
+        for line, row in self.records():
+            if line in lines:
+                yield [Cell(line, column, row[column - 1] if column <= len(row) else "") for column in columns]
+
+    def read_times(self, read: Callable[[Cell], int]) -> Order:
+        """Read each time. Of each column the first cell that isn't one is noted for each cause."""
+        times = np.zeros((len(self.jobs), len(self.machines)), dtype=np.int64)
+        for at, row in enumerate(self.times()):
+            if not any(cell.text for cell in row):
+                self.report(self.jobs[at], EMPTY_ROW)
+                continue
+            for machine, cell in enumerate(row):
+                try:
+                    times[at, machine] = read(cell)
+                except TableFault as fault:
+                    cause = cell.column, fault.text.replace(repr(cell.text), "")
+                    first, count = self.wrong.get(cause, (fault, 0))
+                    self.wrong[cause] = first, count + 1
+        return times
+
+    def check(self) -> None:
+        """Raise the faults that were found, if there are any, in the order of their cells."""
+        others = {column for column, cause in self.wrong if NO_MACHINE in cause}
+        faults = [fault for fault in self.faults if fault.column not in others or ONE_UNIT not in fault.text]
+        for (column, cause), (fault, count) in self.wrong.items():
+            if column not in others or NO_MACHINE in cause:
+                more = f" (and {counted(count - 1, 'more cell')} of the column)" if count > 1 else ""
+                faults.append(TableFault(self.path, fault.line, column, fault.text + more, fault.head))
+        if faults:
+            first, *rest = sorted(faults, key=lambda fault: (fault.line, fault.column))
+            raise TableFault(self.path, first.line, first.column, first.text, first.head, tuple(rest))
+
+
+def read_csv(source: str | os.PathLike[str], unit: str = "", *, decimal: str | None = None,
+             allow_totals: bool = False, machines: Iterable[str] | None = None, sheet: str | None = None,
+             decimals: int | None = None) -> Instance:
+    """Read a table of times from a CSV file or a workbook: a row for each job, a column for each machine.
+
+    Parameters
+    ----------
+    source : str or os.PathLike
+        The file, in UTF-8 or in UTF-16 with a byte order mark, of at most 64 MiB. The first row names the machines and
+        the first column the jobs. Semicolons, tabs or commas separate the columns. Titles above the first row, empty
+        rows and empty columns are skipped. A workbook (``.xlsx``) needs openpyxl.
+    unit : str
+        The unit of all times. The table can name it in its first cell, in brackets: ``job [min]``, or at each machine.
+        Two different units of time are rejected.
+    decimal : str, optional
+        The decimal sign, ``"."`` or ``","``. The other one may then group digits by thousands. By default it is the
+        point where commas separate the columns. Elsewhere it is the one that the table uses, and a number such as
+        ``1.000``, which may be 1 or 1000, is rejected. In a workbook it is the sign of texts, and a text such as
+        ``1.000`` is rejected without it.
+    allow_totals : bool
+        Whether rows and columns may have names of sums, means or quantities, the last row may be the sum of the rows
+        above, and the last column the sum of the columns before it. By default such a table is rejected, since they
+        would be planned as jobs or machines.
+    machines : iterable of str, optional
+        The names of the columns that are machines, in the order of the machines. Other columns, and rows above the one
+        that has these names, are skipped. By default all columns but the first one.
+    sheet : str, optional
+        The sheet of a workbook. By default it is the one that the workbook opens with, and a warning names it if there
+        are others. The sheet ``pfs`` has options of `pfs-plan`, and isn't counted. Hidden rows and columns are read
+        too, and a warning says how many there are.
+    decimals : int, optional
+        Round times with more decimals than this, 0 to 9, to the nearest one, and halves up. By default no time is
+        rounded, and one with more than 9 decimals is rejected. Numbers of workbooks have 9 decimals at most.
+
+    Returns
+    -------
+    Instance
+        The instance, with names. Its ``times`` are the times of the table, times 10 to the power of ``decimals``, the
+        number of decimals in the table. Hours and minutes, such as ``1:30``, are read as minutes; the unit is then
+        ``h:mm``.
+
+    Raises
+    ------
+    TableFault
+        If a cell isn't a time or is ambiguous, a name is missing or occurs twice, all names are numbers as if they were
+        times, units differ, or there are totals. It has all faults of the table.
+    ImportError
+        If the file is a workbook, and openpyxl isn't installed.
+
+    Examples
+    --------
+    >>> import pathlib, tempfile
+    >>> path = pathlib.Path(tempfile.mkdtemp(), "plan.csv")
+    >>> _ = path.write_text("job [h];saw;drill\\ntable;3;2,5\\nchair;2;5\\n")
+    >>> shop = pfs.read_csv(path)
+    >>> shop.job_names, shop.machine_names, shop.unit
+    (('table', 'chair'), ('saw', 'drill'), 'h')
+    >>> shop.times.tolist(), shop.decimals
+    ([[30, 25], [20, 50]], 1)
+    >>> print(shop.schedule([1, 0]).to_csv(), end="")
+    job,machine,start,end
+    chair,saw,0.0,2.0
+    chair,drill,2.0,7.0
+    table,saw,2.0,5.0
+    table,drill,7.0,9.5
+    """
+    found = table_of(source, unit, decimal, allow_totals, machines, sheet, decimals)
+    if found.note:
+        warnings.warn(found.note, stacklevel=2)
+    return found.shop
+
+
+def table_of(source: str | os.PathLike[str], unit: str, decimal: str | None, allow_totals: bool,
+             machines: Iterable[str] | None = None, sheet: str | None = None,
+             most_decimals: int | None = None) -> Table:
+    """Read a table. The parameters are those of `read_csv`."""
+    path = os.fspath(source)
+    content, faults, note, texts = content_of(path, "table"), list[TableFault](), "", None
+    if content.startswith(ARCHIVE):
+        text, note, texts = sheet_of(content, path, sheet)
+    else:
+        text = text_of(content, path, faults)
+        if sheet is not None:
+            raise ValueError(f"{path} isn't a workbook (.xlsx), and has no sheet {sheet!r}")
+    delimiter = delimiter_of(text)
+    shop, rounded = table_in(lambda: records(text, path, delimiter), path, delimiter, unit, decimal, allow_totals,
+                             machines, most_decimals, texts, faults)
+    return Table(shop, delimiter, content.startswith(MARKS), note, rounded)
+
+
+def table_in(records: Records, path: str, delimiter: str, unit: str, decimal: str | None, allow_totals: bool,
+             machines: Iterable[str] | None, most_decimals: int | None, texts: set[tuple[int, int]] | None,
+             faults: Iterable[TableFault] = ()) -> tuple[Instance, str]:
+    """Read a table from the rows of a file, with its faults so far, or of a workbook, with the places of its texts.
+    Return it, and what was rounded."""
+    most_decimals = None if most_decimals is None else checked_int(most_decimals, "decimals", 0, 9)
+    if decimal not in (None, ".", ","):
+        raise ValueError(f"decimal must be '.' or ',', not {decimal!r}")
+    names = list(machines or ())
+    table = rows_of(Rows(path, records, delimiter, texts, bool(names), [*faults]), names)
+    if not allow_totals:
+        leave_out_totals(table)
+    heads, found = without_units(table, unit)
+    check_sizes(table)
+    job_names, machine_names = names_in(table, table.jobs, "job"), names_in(table, heads, "machine")
+    reject_times_as_names(table, machine_names, job_names)
+    sign = DecimalSign(table, decimal, most_decimals)
+    times, decimals, found = times_of(table, sign, found)
+    table.check()
+    if not allow_totals:
+        reject_sums(table, times)
+    shop = Instance(times, name=os.path.basename(path), job_names=job_names, machine_names=machine_names, unit=found,
+                    decimals=decimals)
+    return shop, sign.rounded()
+
+
+def sheet_of(content: bytes, path: str, sheet: str | None) -> tuple[str, str, set[tuple[int, int]]]:
+    """Return a sheet of a workbook as CSV, of whose rows one more than a table may have is read, and which of its texts
+    look like numbers. By default it is the one with which the workbook opens, and the second text says so if there are
+    others. It also says if rows or columns are hidden."""
+    book = Workbook(content, path)
+    own = book.first if sheet is None else sheet
+    if own not in book.names:
+        raise ValueError(f"{path} has no sheet {own!r}, but {', '.join(map(repr, book.names))}")
+    text = book.csv_of(own, MOST_ROWS + 2)
+    others = [repr(name) for name in book.names if name != own and name.casefold() != OPTIONS_SHEET]
+    note = f"the sheet {own!r} is read, and not {', '.join(others)} (`sheet`)" if others and sheet is None else ""
+    hidden = " and ".join(counted(number, f"hidden {what}") for number, what in zip(book.hidden, ("row", "column"))
+                          if number)
+    if hidden:
+        note += f"{'; ' if note else ''}{hidden} {'is' if sum(book.hidden) == 1 else 'are'} read too"
+    return text, note and f"{path}: {note}", book.texts
+
+
+def text_of(content: bytes, path: str, faults: list[TableFault] | None = None) -> str:
+    """Return the text of a file; that of a workbook as CSV. Another encoding is added to the faults, or raised."""
+    if content.startswith(ARCHIVE):
+        book = Workbook(content, path)
+        return book.csv_of(book.first)
+    if content.startswith(COMPOUND):
+        raise TableFault(path, 1, 0, f"is a spreadsheet's own file: {SAVE_AS}, or as .xlsx")
+    encoding = "utf-16" if content.startswith(MARKS[1:]) else "utf-8-sig"
+    try:
+        return content.decode(encoding)
+    except UnicodeDecodeError as error:
+        line = content[:error.start].count(b"\n") + 1
+        fault = TableFault(path, line, 0, f"isn't text in UTF-8: {SAVE_AS}")
+    if faults is None or encoding == "utf-16":
+        raise fault
+    faults.append(fault)
+    return content.decode("cp1252", "replace")
+
+
+def lines_of(text: str) -> Iterator[str]:
+    """Return the lines with their ends, one after the other."""
+    return map(re.Match.group, LINE.finditer(text))
+
+
+def delimiter_of(text: str) -> str:
+    """Return the separator of the columns: the one that the first line names, or `;` or tab if it is in more than half
+    of the lines, outside of cells in quotes, else a comma."""
+    count, counts = 0, {";": 0, "\t": 0}
+    for line in islice(filter(str.strip, lines_of(QUOTED.sub("x", text))), 10 * MOST_ROWS):
+        named = re.fullmatch(r"sep=(.)\s*", line)
+        if named and not count:
+            return named[1]
+        count += 1
+        for sign in counts:
+            counts[sign] += sign in line
+    return next((sign for sign in counts if 2 * counts[sign] > count), ",")
+
+
+def texts_in(row: Iterable[str]) -> list[str]:
+    """Return the texts of cells."""
+    return [text_in_cell(cell) if "'" in cell else cell.strip() for cell in row]
+
+
+def records(text: str, path: str, delimiter: str) -> Iterator[tuple[int, list[str]]]:
+    """Return the rows that aren't empty, with their numbers, without one that names the separator."""
+    signs, line, number = 0, 1, 0
+
+    def lines() -> Iterator[str]:
+        nonlocal signs
+        for each in lines_of(text):
+            signs += each.count(delimiter)
+            if signs >= MOST_CELLS:
+                raise TableFault(path, line, 0, f"the row has more than {MOST_CELLS:,} cells")
+            yield each
+
+    reader = csv.reader(lines(), delimiter=delimiter, strict=True, skipinitialspace=delimiter != "\t")
+    try:
+        for row in reader:
+            number += row[:1] != ["sep="] or number > 0
+            cells = texts_in(row)
+            if any(cells) and number:
+                yield number, cells
+            signs, line = 0, reader.line_num + 1
+    except csv.Error as error:
+        raise TableFault(path, reader.line_num, 0, f"isn't a row of a table: {error}") from None
+
+
+def rows_of(table: Rows, machines: list[str]) -> Rows:
+    """Return the table: the rows from the first one on that has more than a first cell, or that names these machines.
+    Those above it are titles."""
+    path = table.path
+    head: list[str] = []
+    titles: list[Cell] = []
+    used: set[int] = set()
+    for line, row in table.records():
+        if len(titles) + len(table.jobs) == MOST_ROWS:
+            raise TableFault(path, line, 0, f"the table has more than {MOST_ROWS:,} rows")
+        first = Cell(line, 1, row[0])
+        if not table.jobs and is_head(row, head if used else None, machines):
+            head, table.corner, used = row, first, {1}
+        else:
+            (table.jobs if used else titles).append(first)
+        if used:
+            used.update(column for column, cell in enumerate(row, 1) if cell)
+    if not titles and not used:
+        raise TableFault(path, 1, 0, "the table is empty")
+    if not used:
+        reject_columns(table, titles, machines)
+    line = table.corner.line
+    columns = [the_column(table, head, name) for name in machines] or sorted(used)[1:]
+    table.machines = [Cell(line, column, head[column - 1] if column <= len(head) else "") for column in columns]
+    if not machines:
+        check_titles(table, titles)
+    return table
+
+
+def is_head(row: Sequence[str], above: Sequence[str] | None, machines: list[str]) -> bool:
+    """Whether a row names these machines, or else is the first one with more than a first cell. If the row above it was
+    taken for that, it was a title if it names fewer machines and this row has names only."""
+    if above is None:
+        return all(columns_of(row, name) for name in machines) if machines else any(row[1:])
+    names, others = ([name for name in each[1:] if name] for each in (row, above))
+    return not machines and len(names) > len(others) and not any(map(is_time, names)) and is_above_names(row[0] or "?")
+
+
+def columns_of(head: Sequence[str], name: str) -> list[int]:
+    """Return the columns after the first one that have this name, or else, if it isn't empty, those that have it
+    without their units or in other capitals."""
+    wanted, names = name.strip(), [*enumerate(head[1:], 2)]
+    found = [column for column, text in names if text == wanted] or [
+        column for column, text in names if wanted.casefold() in (text.casefold(), without_unit(text).casefold())]
+    return found if wanted else []
+
+
+def the_column(table: Rows, head: Sequence[str], name: str) -> int:
+    """Return the column with this name. Several ones are reported."""
+    column, *others = columns_of(head, name)
+    for other in others:
+        table.report(Cell(table.corner.line, other, ""), f"the machine {name!r} may be this column or "
+                     f"{cell_name(table.corner.line, column)}: give them different names, or write the whole name "
+                     "(`machines`)")
+    return column
+
+
+def reject_columns(table: Rows, titles: Sequence[Cell], machines: list[str]) -> None:
+    """No row has names of machines, or not the given ones: say what the row with the most of them lacks."""
+    if not machines:
+        raise TableFault(table.path, titles[0].line, 0, f"0 machines: there may be 1 to {c.MOST_MACHINES}")
+    line, row = max(table.records(), key=lambda each: sum(bool(columns_of(each[1], name)) for name in machines))
+    missing = next(name for name in machines if not columns_of(row, name))
+    others = ", ".join(filter(None, row[1:]))
+    raise TableFault(table.path, line, 0, f"no column is named {missing!r}: this row has {others or 'no other names'} "
+                                    "(`machines`)")
+
+
+def check_titles(table: Rows, titles: Sequence[Cell]) -> None:
+    """If the names of the machines are missing, that row looks like a title and the first job like the names, which
+    would lose the job: a fault. So is a table with a row for each machine."""
+    for title in titles:
+        if title.text and is_above_names(title.text):
+            raise table.fault(Cell(title.line, 2, ""), "the machine has no name")
+    if SAYS_MACHINE.match(table.corner.text):
+        table.report(table.corner, f"{table.corner.text!r} says that the rows are machines, but a row is a job: turn "
+                                   "the table round, or write `job` here")
+    names = [head.text for head in table.machines if head.text]
+    if titles and all(map(is_time, names)) and not is_above_names(table.corner.text):
+        raise table.fault(table.machines[0], TIMES_AS_NAMES.format(what="machine", part="row"))
+
+
+def leave_out_totals(table: Rows) -> None:
+    """Report rows and columns that are named as sums, means or quantities. Columns may be if they were chosen."""
+    for cells, pattern, what in (
+            (table.jobs, NO_JOB, "the row {!r} looks like a sum or a mean"),
+            ([] if table.is_chosen else table.machines, NO_TIMES,
+             "the column {!r} looks like a sum, a mean or a quantity")):
+        for cell in [cell for cell in cells if pattern.match(cell.text)]:
+            table.report(cell, f"{what.format(cell.text)}: leave it out, or allow totals (`allow_totals`)")
+            cells.remove(cell)
+
+
+def check_sizes(table: Rows) -> None:
+    """Raise the faults so far if there are too many or too few jobs or machines."""
+    for cells, what, most in ((table.machines, "machine", c.MOST_MACHINES), (table.jobs, "job", c.MOST_JOBS)):
+        if not 1 <= len(cells) <= most:
+            line = (cells or [table.corner])[-1].line
+            table.report(Cell(line, 0, ""), f"{len(cells)} {what}s: there may be 1 to {most:,}")
+            table.check()
+
+
+def names_in(table: Rows, cells: Iterable[Cell], what: str) -> list[str]:
+    """Return the names in these cells. Missing and repeated ones are reported."""
+    seen: dict[str, Cell] = {}
+    for cell in cells:
+        title = ": name it, or if the row is a title, leave out all but its first cell" if what == "machine" else ""
+        if not cell.text:
+            table.report(cell, f"the {what} has no name{title}")
+        elif cell.text in seen:
+            table.report(cell, f"the {what} {cell.text!r} is in {seen[cell.text].name} too")
+        seen.setdefault(cell.text, cell)
+    return list(seen)
+
+
+def unit_in(text: str) -> str:
+    """The text in brackets at the end of a name."""
+    found = UNIT.search(text)
+    return found[1].strip() if found else ""
+
+
+def kind_of(unit: str) -> tuple[int, bool] | None:
+    """What all names of a unit of time have in common: its seconds, and whether times in it are written as 1:30."""
+    seconds = seconds_in(unit)
+    return None if seconds is None else (seconds, unit.casefold() in CLOCKS)
+
+
+def without_units(table: Rows, unit: str) -> tuple[list[Cell], str]:
+    """The names of the machines without a unit that they all have, and the unit of the table."""
+    first = unit_in(table.corner.text)
+    if unit and seconds_in(first) and kind_of(unit) != kind_of(first):
+        table.report(table.corner, f"the times are in {first}, and `unit` is {unit}: {ONE_UNIT}")
+    named = unit or first
+    units = [own if seconds_in(own := unit_in(head.text)) else "" for head in table.machines]
+    if not any(units):
+        return table.machines, named
+    expected = named or next(filter(None, units))
+    heads = [head._replace(text=without_unit(head.text) if own else head.text)
+             for head, own in zip(table.machines, units)]
+    for head, own in zip(heads, units):
+        if kind_of(own) != kind_of(expected) and (own or not named):
+            others = "`unit` is" if unit else "others are in"
+            table.report(head, f"the times of {without_unit(head.text)!r} are in {own or 'no unit'}, and {others} "
+                               f"{expected}: {ONE_UNIT}")
+    return heads, expected
+
+
+def without_unit(text: str) -> str:
+    """A name without what is in brackets at its end."""
+    return UNIT.sub("", text).rstrip()
+
+
+def likely_machines(rows: Iterable[tuple[int, Sequence[str]]]) -> list[str]:
+    """The names of the columns that have mostly times, and not the name of a sum. Of the rows with several names the
+    one that has most of them counts."""
+    texts, best = [cells for _, cells in rows], list[str]()
+    heads = (at for at, cells in enumerate(texts) if sum(bool(cell) and not is_time(cell) for cell in cells[1:]) > 1)
+    for at in islice(heads, 5):
+        found = []
+        for column, name in enumerate(texts[at][1:], 1):
+            below = [cells[column] for cells in texts[at + 1:] if column < len(cells) and cells[column]]
+            if name and not is_time(name) and not NO_TIMES.match(name) and 2 * sum(map(is_time, below)) > len(below):
+                found.append(name)
+        best = max(best, found, key=len)
+    return best
+
+
+def is_above_names(first: str) -> bool:
+    """Whether the first cell of a row says that names follow to the right and below: it is `job`, empty, or has a unit
+    of time."""
+    return bool(SAYS_JOB.match(without_unit(first))) or seconds_in(unit_in(first)) is not None
+
+
+def is_time(text: str) -> bool:
+    return NUMBER.match(text) is not None or HOURS.match(text) is not None
+
+
+def reject_times_as_names(table: Rows, machines: Sequence[str], jobs: Sequence[str]) -> None:
+    """Names that are all numbers are probably times: the row or the column of names is missing. The first cell of the
+    table may say that they are names."""
+    if is_above_names(table.corner.text):
+        return
+    for names, what, part, cell in ((machines, "machine", "row", table.machines[0]),
+                                    (jobs, "job", "column", table.jobs[0])):
+        if all(map(is_time, names)):
+            table.report(cell, TIMES_AS_NAMES.format(what=what, part=part))
+
+
+def times_of(table: Rows, sign: DecimalSign, unit: str) -> tuple[Order, int, str]:
+    """Return the times, the number of their decimals, and their unit. They are hours and minutes if most cells are, or
+    the unit says so."""
+    numbers = hours = 0
+    for row in table.times():
+        for cell in row:
+            number = NUMBER.match(cell.text)
+            numbers += number is not None and not ZERO.match(cell.text)
+            hours += HOURS.match(cell.text) is not None
+            if number and number[2] and sign.sign is None and not GROUPED.match(cell.text):
+                sign.sign, sign.first = number[2], cell
+    if hours >= max(1, numbers) or unit.casefold() in CLOCKS:
+        check_clock(table, unit)
+        why = "other times of the table are" if hours else "the unit says"
+        times, decimals, unit, note = table.read_times(partial(minutes_of, table, why)), 0, CLOCK, " minutes"
+    else:
+        # In billionths. What is too long for them is too long for a time.
+        times, decimals, note = table.read_times(sign.billionths_of), sign.decimals, ""
+        times //= 10**(9 - decimals)
+    for job, machine in np.argwhere(times > c.LONGEST_TIME)[:1].tolist():
+        cell, most = Cell(table.jobs[job].line, table.machines[machine].column, ""), f"above {c.LONGEST_TIME:,}"
+        if sign.longest is None or times[job, machine] > c.LONGEST_TIME * 10**decimals:
+            table.report(cell, f"the time is {most}{note}")
+        else:
+            table.report(sign.longest, f"{sign.longest.text!r} has {counted(decimals, 'decimal')}, in which the time "
+                                       f"in {cell.name} is {most}: {ROUND_IT}")
+    return times, decimals, unit
+
+
+def check_clock(table: Rows, unit: str) -> None:
+    """Report a unit in which times aren't hours and minutes."""
+    if unit and unit.casefold() not in CLOCKS and kind_of(unit) != kind_of("h"):
+        table.report(table.corner, "times such as 1:30 may be hours and minutes, or minutes and seconds: write [h:mm] "
+                                   f"instead of {unit}, or numbers" if kind_of(unit) == kind_of("min") else
+                                   f"times such as 1:30 are hours and minutes, not {unit}")
+
+
+def minutes_of(table: Rows, why: str, cell: Cell) -> int:
+    """Return a time in minutes that is written as hours and minutes."""
+    match = HOURS.match(cell.text)
+    if match is None and not ZERO.match(cell.text):
+        hint = ": leave out the seconds" if SECONDS.fullmatch(cell.text) else ""
+        raise table.fault(cell, f"{cell.text!r} isn't hours and minutes, as {why}{hint}" if cell.text else MISSING)
+    return 60 * int(match[1]) + int(match[2]) if match else 0
+
+
+class DecimalSign:
+    """The decimal sign of a table. By default it is the sign of the first time in which it can't group thousands."""
+
+    def __init__(self, table: Rows, given: str | None, most: int | None = None) -> None:
+        self.table, self.given, self.most = table, given, most
+        self.sign = given or ("." if table.delimiter == "," else None)
+        # The time that shows it.
+        self.first: Cell | None = None
+        # The most decimals of a time so far, and the first time with so many.
+        self.decimals = 0
+        self.longest: Cell | None = None
+        # How many times were rounded, the first one that changed most, and by how many of 10^-20.
+        self.changed = self.change = 0
+        self.worst: Cell | None = None
+
+    def billionths_of(self, cell: Cell) -> int:
+        """Return a time in billionths, at most the greatest int64."""
+        texts = self.table.texts
+        # A number of a workbook has a point.
+        given, sign = (self.given, self.sign) if texts is None or cell[:2] in texts else (".", ".")
+        text = self.without_groups(cell.text, given) if given else cell.text
+        match = NUMBER.match(text)
+        if not text:
+            raise self.table.fault(cell, MISSING)
+        if (sign is None or texts is not None and not given) and GROUPED.match(text):
+            digits = re.sub("[.,]", "", text)
+            raise self.table.fault(cell, f"{text!r} may be {digits}, or have decimals: leave out thousands separators, "
+                                         "or say which decimal sign the table has (`decimal`)")
+        if match and match[2] not in (None, sign) and self.first:
+            raise self.table.fault(cell, f"{cell.text!r} has another decimal sign than {self.first.text!r} in "
+                                         f"{self.first.name}")
+        if match is None or match[2] not in (None, sign):
+            raise self.table.fault(cell, f"{cell.text!r} isn't a time{self.hint_for(cell.text)}")
+        whole, part = match[1], (match[3] or "").rstrip("0")
+        if self.most is not None and len(part) > self.most:
+            whole, part = self.round(cell, int(whole + part.ljust(20, "0")), self.most)
+        if len(part) > 9:
+            raise self.table.fault(cell, f"{cell.text!r} has more than 9 decimals: {ROUND_IT}")
+        if len(part) > self.decimals:
+            self.decimals, self.longest = len(part), cell
+        return min(int(whole + part.ljust(9, "0")), np.iinfo(np.int64).max)
+
+    def round(self, cell: Cell, time: int, most: int) -> tuple[str, str]:
+        """Round a time, in units of 10^-20, and return its digits before and after the decimal sign."""
+        step: int = 10**(20 - most)
+        rounded = (time + step // 2) // step * step
+        self.changed += 1
+        if abs(rounded - time) > self.change:
+            self.worst, self.change = cell, abs(rounded - time)
+        digits = f"{rounded:021d}"
+        return digits[:-20], digits[-20:].rstrip("0")
+
+    def rounded(self) -> str:
+        """Say what was rounded."""
+        if self.worst is None:
+            return ""
+        most = f"{self.change / 10**20:.2g}"
+        return (f"{counted(self.changed, 'time')} rounded to {counted(self.most or 0, 'decimal')}, by {most} at most "
+                f"({self.worst.name}: {self.worst.text})")
+
+    def hint_for(self, text: str) -> str:
+        """What to write instead of what isn't a time."""
+        if match := NUMBER.match(text):
+            is_text = match[2] and self.table.texts is not None
+            return ": it is text that looks like a number: format the cell as a number, and write it again" if is_text \
+                else ""
+        hint = next((hint for wrong, hint in HINTS if wrong.fullmatch(text)), "")
+        return f": {SKIPS if hint == NO_MACHINE and self.table.is_chosen else hint}" if hint else ""
+
+    def without_groups(self, text: str, given: str) -> str:
+        """Return a number without its thousands separators."""
+        other = "," if given == "." else "."
+        grouped = rf"(?!0)[0-9]{{1,3}}(?:\{other}[0-9]{{3}})+(?:\{given}[0-9]+)?\Z"
+        return text.replace(other, "") if re.match(grouped, text) else text
+
+
+def reject_sums(table: Rows, times: Order) -> None:
+    """Reject a table whose last row or column is the sum of the others. A single equal number may be a coincidence, so
+    at least two rows and two columns must be summed."""
+    for last, own, others in ((table.jobs[-1], times, "row {!r} has the sums of the rows above"),
+                              (table.machines[-1], times.T, "column {!r} has the sums of the columns before")):
+        total = own[:-1].sum(axis=0)
+        if min(own.shape[0] - 1, len(total)) > 1 and total.any() and (total == own[-1]).all():
+            raise table.fault(last, f"the {others.format(last.text)}: leave it out, or allow totals (`allow_totals`)")
+
+
+def text_rows(shop: Instance) -> Iterator[list[str]]:
+    """The rows of a table of times, as texts with decimal points."""
+    yield [f"job [{shop.unit}]" if shop.unit else "job", *map(shop.machine_name, range(shop.machines))]
+    for job, row in enumerate(shop.times.tolist()):
+        yield [shop.job_name(job), *(amount(time, shop.decimals, shop.unit) for time in row)]
+
+
+def write_table(path: str, shop: Instance, delimiter: str, mark: bool) -> None:
+    """Write a table of times that `table_of` reads as this instance, as a workbook or as CSV."""
+    head, *texts = text_rows(shop)
+    if path.lower().endswith(".xlsx"):
+        rows = [[shop.job_name(job), *(cell_of(time, shop.decimals, shop.unit) for time in row)]
+                for job, row in enumerate(shop.times.tolist())]
+        write_workbook(path, [("times", [head, *rows])])
+        return
+    lines: list[str] = []
+    writer = csv_writer(lines, [*head, *(name for name, *_ in texts)], delimiter)
+    writer.writerow(map(text_cell, head))
+    point = "," if delimiter == ";" else "."
+    # The sign before three decimals alone could separate thousands, so they get another zero.
+    more = "0" if shop.decimals == 3 and delimiter != "," else ""
+    for name, *row in texts:
+        writer.writerow([text_cell(name), *(time.replace(".", point) + more for time in row)])
+    atomic_write(path, "".join(lines).encode("utf-8-sig" if mark else "utf-8"))
+
+
+def counted(number: int, what: str) -> str:
+    """Return a number with its noun.
+
+    >>> counted(1, "job"), counted(2, "job")
+    ('1 job', '2 jobs')
+    """
+    return f"{number:,} {what}{'' if number == 1 else 's'}"
+
+
+def described(shop: Instance) -> str:
+    """Return one line about what was read.
+
+    >>> described(Instance([[35, 20]], machine_names=["saw", "drill"], unit="min", decimals=1))
+    '1 job, 2 machines (saw, drill), times in min with 1 decimal'
+    >>> described(Instance([[1] * 12]))[-33:], described(Instance([[1] * 13]))[-33:]
+    (' 9, 10, 11), times without a unit', '10, 11, ..), times without a unit')
+    """
+    names = [shop.machine_name(machine) for machine in range(shop.machines)]
+    decimals = f" with {counted(shop.decimals, 'decimal')}" if shop.decimals else ""
+    unit = f"times in {shop.unit}" if shop.unit else "times without a unit"
+    some = ", ".join(names[:12]) + (", .." if len(names) > 12 else "")
+    return f"{counted(shop.jobs, 'job')}, {counted(shop.machines, 'machine')} ({some}), {unit}{decimals}"

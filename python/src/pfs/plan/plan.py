@@ -1,0 +1,231 @@
+"""Plans: an order of the jobs of a table, of which the first ones may be held, and when there is work. `pfs-plan` makes
+them of options, and the page for planners of requests."""
+from __future__ import annotations
+
+from collections.abc import Callable, Iterable, Sequence
+from functools import cached_property
+from typing import Any, NamedTuple
+
+import numpy as np
+
+from pfs.base.names import CLOCK, amount, shown
+from pfs.plan.orders import AFTER_ORDER, FoundOrder, filled
+from pfs.schedules.calendar import Calendar, Clock, begin_of, needed, text_of
+from pfs.schedules.report import JOBS, Report, rows_of, text_table
+from pfs.schedules.rest import begun, rest_of, spans_of
+from pfs.schedules.schedule import Schedule
+from pfs.shops.instance import Instance, digest_of
+from pfs.shops.proof import EARLY, is_small, solve_and_prove
+from pfs.shops.search import Event, Progress, Search
+from pfs.shops.solution import Solution
+
+
+class Limits(NamedTuple):
+    """How long a plan is searched: up to a round, or for some seconds or up to the bound; and for how many seconds it
+    is then tried to prove that no order is shorter."""
+
+    rounds: int | None
+    seconds: float | None
+    prove: float
+
+
+class Plan:
+    """A plan of a shop. `order` has the jobs that have a place so far, of which the first ones are held, and `gone` the
+    jobs of it that the shop lacks."""
+
+    def __init__(self, shop: Instance, found: FoundOrder = FoundOrder([], {}), held: int = 0,
+                 calendar: Calendar | None = None, language: str = "en") -> None:
+        self.shop, self.calendar, self.language, self.least = shop, calendar, language, 0
+        self.order, self.gone = found
+        self.held = self.order[:held]
+
+    @cached_property
+    def clock(self) -> Clock | None:
+        return None if self.calendar is None else Clock(self.calendar, self.shop)
+
+    @cached_property
+    def table(self) -> str:
+        """What tells its table from others."""
+        return digest_of(self.shop)
+
+    def know(self, least: int, table: str) -> bool:
+        """Use a bound that is known of a table, unless that is another one. Return whether it is used."""
+        self.least = least if table == self.table else 0
+        return self.least == least
+
+    def hold(self, jobs: Iterable[int]) -> None:
+        """Hold these jobs too, behind those that are held."""
+        self.held = list(dict.fromkeys([*self.held, *jobs]))
+        self.order = list(dict.fromkeys([*self.held, *self.order]))
+
+    def fill(self) -> list[int]:
+        """Insert the jobs that have no place at their best ones behind the held jobs, and return them."""
+        return filled(self.shop, self.order, len(self.held))
+
+    def search(self, seed: int = 0, method: str = "iterated-greedy", take: int | None = None,
+               passes: int | None = None, move: Sequence[int] | None = None) -> Search:
+        """The search for a shorter order, which begins with this one if all jobs have a place. Of those that aren't
+        held it moves all, or these."""
+        start = self.order if len(self.order) == self.shop.jobs else None
+        return Search(self.shop, start, 0, take, passes, seed, self.held, move, method=method)
+
+    def solve(self, search: Search, limits: Limits, progress: Progress | None = None, stop: Event | None = None,
+              watch: Callable[[float], bool] | None = None) -> Solution:
+        """Search within limits. Where a proof is tried afterwards, one is also tried for a moment before. The best
+        order becomes that of the plan. Every exception has the best order so far in its attribute `solution`."""
+        prove = limits.prove if is_provable(search) else 0.0
+        early = min(EARLY, prove, limits.seconds or 0.0) if limits.rounds is None else 0.0
+        return self.keep(solve_and_prove(search, limits.rounds, progress, limits.seconds, stop=stop, early=early,
+                                         prove=prove, watch=watch))
+
+    def keep(self, best: Solution) -> Solution:
+        """Make this the order of the plan."""
+        self.order, self.best, self.least = best.order.tolist(), best, best.bound
+        return best
+
+    @cached_property
+    def best(self) -> Solution:
+        """The order with its makespan and bound."""
+        best = Solution(self.order, self.schedule.makespan)
+        best.bound = min(max(self.shop.bound(), self.least), best.makespan)
+        return best
+
+    @cached_property
+    def schedule(self) -> Schedule:
+        return self.shop.schedule(self.order)
+
+    @cached_property
+    def report(self) -> Report:
+        return self.schedule.report()
+
+    # What it says
+
+    def amount(self, time: int) -> str:
+        """A time."""
+        return amount(time, self.shop.decimals, self.shop.unit)
+
+    def span(self, time: int) -> str:
+        """A time with its unit."""
+        return span_text(self.shop, time)
+
+    def ends(self) -> list[str]:
+        """The makespan, and when it is finished; not if there are no dates, or the calendar ends before."""
+        found = [f"makespan {self.span(self.best.makespan)}"]
+        if self.clock is not None:
+            try:
+                end = self.clock.span(0, self.best.makespan)[1]
+            except ValueError:
+                return found
+            found.append(f"end {text_of(end, self.clock.digits(self.schedule.starts, self.schedule.ends))}")
+        return found
+
+    def machines(self) -> list[tuple[Any, ...]]:
+        """The rows of a table of the machines, with its heads."""
+        return rows_of(self.report, self.amount)
+
+    def jobs(self) -> list[list[str]]:
+        """Each job, in their order, with its start and its end."""
+        span = self.schedule._texts(self.calendar)
+        return [[each.name, *span(each.start, each.end)] for each in self.report.jobs]
+
+    def text(self, is_reported: bool = False) -> str:
+        """What `pfs-plan` prints, perhaps with a report."""
+        makespan, *end = self.ends()
+        lines = [makespan, f"bound {self.span(self.best.bound)}", *["optimal"] * self.best.optimal, *end]
+        lines += [f"{place} {shown(self.shop.job_name(job))}" for place, job in enumerate(self.order, 1)]
+        if is_reported:
+            machines = [[shown(str(cell)) for cell in row] for row in self.machines()]
+            jobs = [[*JOBS], *([*map(shown, row)] for row in self.jobs())]
+            lines += [AFTER_ORDER, f"{text_table(machines)}\nbottleneck {shown(self.report.bottleneck)}\n",
+                      text_table(jobs).rstrip("\n")]
+        return "\n".join(lines) + "\n"
+
+    # What it writes
+
+    def write(self, path: str, delimiter: str, mark: bool) -> list[str]:
+        """Write the schedule as a workbook, as calendars or as CSV, and return the names of the files."""
+        if path.lower().endswith(".ics"):
+            return self.schedule.to_ics(path, needed(self.calendar, "a calendar"))
+        if path.lower().endswith(".xlsx"):
+            self.schedule.to_xlsx(path, calendar=self.calendar, language=self.language)
+        else:
+            self.schedule.to_csv(path, delimiter, mark=mark, calendar=self.calendar, language=self.language)
+        return [path]
+
+    def chart(self, path: str, title: bool | str) -> None:
+        """Write the chart."""
+        self.schedule.plot(path, critical=True, bound=self.best.bound, calendar=self.calendar, title=title,
+                           language=self.language)
+
+    # What is left of it
+
+    def rest(self, moment: str, down: Iterable[tuple[str, str]], hold: int = 0,
+             path: str | None = None) -> tuple[Plan, tuple[str, ...]]:
+        """The plan of what is left at a moment, and the names of the jobs that are finished. Machines are down until
+        these moments. The jobs that have begun are held, and the first ones of this order; jobs without a place come
+        last. The order is in a file, if there is a path."""
+        shop, order, now = self.shop, self.order, begin_of(moment)
+        clock = self.clock or Clock(needed(self.calendar, "`now`"), shop)
+        calendar = clock.calendar
+        if now < calendar.begin:
+            raise ValueError(f"`now`: {now} is before `begin`")
+        at = clock.time_at(now)
+        self.check_gone(at, path)
+        new = [job for job in range(shop.jobs) if job not in set(order)]
+        left, held, done = rest_of(shop, order, at, down_until(down, clock, shop, at), new)
+        count = left.jobs - len(new)
+        # Of the first jobs of the order those that are finished are gone, and machines that are down are among them.
+        held = max(held, min(hold, len(order)) + count - len(order))
+        later = calendar._begun_at(calendar.start(clock.worked(at)))
+        return Plan(left, FoundOrder([*range(count)], self.gone), held, later, self.language), done
+
+    def check_gone(self, at: int, path: str | None) -> None:
+        """A job that the table lacks has delayed those after it, if one of them has begun."""
+        places = np.flatnonzero(begun(*spans_of(self.shop, self.order), at))
+        last = int(places.max(initial=-1))
+        gone = next((name for name, before in self.gone.items() if before <= last), None)
+        if gone is not None:
+            later = self.shop.job_name(self.order[last])
+            raise ValueError(f"{path}: the table has no job {gone!r}, but {later!r} after it has begun: leave jobs "
+                             "that have begun in the table")
+
+
+def is_provable(search: Search) -> bool:
+    """Whether a proof says anything of a search: all jobs move, and are few enough."""
+    return len(search.moved) == search.shop.jobs and is_small(search.shop)
+
+
+def span_text(shop: Instance, span: int) -> str:
+    """A time with its unit."""
+    unit = "h" if shop.unit == CLOCK else shown(shop.unit)
+    return f"{amount(span, shop.decimals, shop.unit)} {unit}".rstrip()
+
+
+def calendar_of(begin: str | None, shift: Sequence[str], days: str | Sequence[str],
+                closed: str | Sequence[str]) -> Calendar | None:
+    """The calendar of a plan, if it has one."""
+    if begin:
+        return Calendar(begin, shift, days or (), closed or ())
+    for name, value in (("shift", shift), ("days", days), ("closed", closed)):
+        if value:
+            needed(None, f"`{name}`")
+    return None
+
+
+def down_until(given: Iterable[tuple[str, str]], clock: Clock, shop: Instance, at: int) -> dict[int, int]:
+    """Return until when machines are down, by their numbers."""
+    names = [shop.machine_name(machine) for machine in range(shop.machines)]
+    folded = [*map(str.casefold, names)]
+    found: dict[int, int] = {}
+    for name, moment in given:
+        own, until = name.strip(), clock.time_at(begin_of(moment))
+        if own not in names and folded.count(own.casefold()) != 1:
+            what = "may be several machines" if own.casefold() in folded else "isn't the name of a machine of the table"
+            raise ValueError(f"`down`: {name!r} {what}")
+        machine = names.index(own) if own in names else folded.index(own.casefold())
+        if machine in found:
+            raise ValueError(f"`down`: {name!r} is there twice")
+        if until <= at:
+            raise ValueError(f"`down`: {name!r} is up again by then ({moment})")
+        found[machine] = until
+    return found
