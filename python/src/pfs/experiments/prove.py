@@ -33,7 +33,7 @@ def prove(args: argparse.Namespace) -> int:
         folders.write_text(experiment.folder / run.PROOFS, json.dumps(found, indent=1))
         count += proof["makespan"] == proof["bound"]
         print(plain(f"{name}: {said_of(run.whole(args.csv, row, 'makespan'), proof)}"), flush=True)
-    print(f"{args.csv}: of {count} of {len(best)} instances the shortest makespan is known", file=sys.stderr)
+    print(f"{args.csv}: the shortest makespan of {count} of {len(best)} instances is known", file=sys.stderr)
     return 1 if any(run.gather(experiment, args.csv)) else 0
 
 
