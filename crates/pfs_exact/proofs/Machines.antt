@@ -6,15 +6,17 @@ use Rattle.std.proofs.lemmas.List.Elements.{Contains-append_left, Contains-appen
 use Rattle.std.proofs.lemmas.List.{append-nil, length-append}
 use Rattle.std.proofs.lemmas.List.Sums.{sum_by-cons, sum_by_push}
 use Rattle.pfs_base.specs.FlowShop.{FlowShop, time_of}
+use Rattle.pfs_base.specs.Heads.{head_of}
 use Rattle.pfs_base.specs.Paths.{makespan}
 use Rattle.pfs_base.proofs.Published.Lists.{by_push}
 use Rattle.pfs_order.specs.Sequence.{IsSequence}
 use Rattle.pfs_audit.specs.Bound.{load_of}
 use Rattle.pfs_audit.proofs.Published.Orders.{sum_by-order}
-use Rattle.pfs_exact.specs.Private.Nodes.{head_of, times_on, IsFull, IsLeast, IsLeft, IsOpen, IsRest, IsStart}
+use Rattle.pfs_exact.specs.Private.Nodes.{times_on, IsFull, IsLeast, IsLeft, IsOpen, IsRest, IsStart}
 use Rattle.pfs_exact.specs.Private.Nodes.{NoneShorter}
 use Rattle.pfs_exact.proofs.Sides.{front_as, from_front, back_as, from_back, first_small, first_open, last_small, last_open}
-use Rattle.pfs_exact.proofs.Heads.{along, down, down_last, first, on, on_last, reach, span_is}
+use Rattle.pfs_exact.proofs.Heads.{along, down, down_last, first, on, on_last, reach}
+use Rattle.pfs_base.proofs.Published.HeadRows.{span_is}
 
 -- ---- smaller times
 

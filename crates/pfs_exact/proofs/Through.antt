@@ -7,12 +7,13 @@ use Rattle.std.proofs.lemmas.Bool.{cases_lt}
 use Rattle.std.proofs.lemmas.List.{append_assoc, append-nil, length-append}
 use Rattle.std.proofs.lemmas.List.Sums.{sum_by-cons, sum_by-le-sum_by}
 use Rattle.pfs_base.specs.FlowShop.{FlowShop, time_of}
+use Rattle.pfs_base.specs.Heads.{head_of}
 use Rattle.pfs_order.specs.Sequence.{IsSequence, all_jobs}
 use Rattle.pfs_order.proofs.Published.Sequences.{Contains-all}
 use Rattle.pfs_audit.specs.Bound.{time_on}
 use Rattle.pfs_audit.proofs.Published.Orders.{sum_by-order}
 use Rattle.pfs_audit.proofs.Published.Ranges.{sum_by-range-suc}
-use Rattle.pfs_exact.specs.Private.Nodes.{head_of, AreAcross, IsFull, IsStart, IsThrough}
+use Rattle.pfs_exact.specs.Private.Nodes.{AreAcross, IsFull, IsStart, IsThrough}
 use Rattle.pfs_exact.proofs.Heads.{down, on, reach}
 use Rattle.pfs_exact.proofs.Sides.{from_none}
 
@@ -76,7 +77,7 @@ module _ (one across two weight : ℕ → ℕ) (time job : ℕ) (here : time + w
 -- ---- paths of an order
 
 -- along a row
-row : (shop : FlowShop) (front : List ℕ) (job : ℕ) (rest : List ℕ) (machine time many : ℕ)
+pub row : (shop : FlowShop) (front : List ℕ) (job : ℕ) (rest : List ℕ) (machine time many : ℕ)
     → time + time_of shop job machine ≤ head_of shop (front ++ job ∷ rest) (suc (length front)) machine
     → time + time_on shop machine (suc many) job
     ≤ head_of shop (front ++ job ∷ rest) (suc (length front)) (machine + many)
