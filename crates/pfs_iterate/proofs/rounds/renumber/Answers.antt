@@ -3,10 +3,10 @@ use Rattle.std.proofs.Common.{List, arith}
 use Rattle.std.proofs.lemmas.Bool.{cases_lt, le-leb, lt-leb}
 use Rattle.std.proofs.lemmas.List.{drop-drop, drop-set-lt, get_or-drop, length-set, map_more, take_more_set}
 use mir.Val.{bool_byte}
-use Rattle.pfs_iterate.specs.Private.Steps.{raised}
-use Rattle.pfs_iterate.proofs.rounds.raise.Goals as goal
+use Rattle.pfs_iterate.specs.Private.Steps.{renumbered}
+use Rattle.pfs_iterate.proofs.rounds.renumber.Goals as goal
 
-one_more : (one job : ℕ) → job + bool_byte (leb one job) ≡ raised one job
+one_more : (one job : ℕ) → job + bool_byte (leb one job) ≡ renumbered one job
 one_more one job =
     elim (cases_lt job one) [
       | inl less ↦ rw (lt-leb one job less) (omega arith)
@@ -51,11 +51,11 @@ loop-index-preserved c =
     let rest : drop (i + 1) now ≡ drop (i + 1) old =
     sym (drop-drop 1 i now) ∙ ap (drop 1) invariant.rest ∙ drop-drop 1 i old in
     let value = get_or now i 0 + c.from.result in
-    let is : value ≡ raised c.args.one (get_or old i 0) =
-    ap (λ n. get_or now i 0 + n) c.from.ensures ∙ one_more c.args.one (get_or now i 0) ∙ ap (raised c.args.one) same in
+    let is : value ≡ renumbered c.args.one (get_or old i 0) =
+    ap (λ n. get_or now i 0 + n) c.from.ensures ∙ one_more c.args.one (get_or now i 0) ∙ ap (renumbered c.args.one) same in
     record {
-      done = rw (take_more_set now i value here, map_more (raised c.args.one) old i 0 small, invariant.done)
-          (ap (λ job. map (raised c.args.one) (take i old) ++ job ∷ []) is);
+      done = rw (take_more_set now i value here, map_more (renumbered c.args.one) old i 0 small, invariant.done)
+          (ap (λ job. map (renumbered c.args.one) (take i old) ++ job ∷ []) is);
       rest = drop-set-lt (i + 1) now i value (omega arith) ∙ rest;
       long = length-set now i value ∙ invariant.long;
     }
