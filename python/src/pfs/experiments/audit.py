@@ -1,15 +1,14 @@
 """Audits of published orders."""
 from __future__ import annotations
 
-import argparse
 import contextlib
 import pathlib
 from typing import Any
 
 from pfs.audits.audit import Audited, Shelf, audited_of
-from pfs.base.atomic import text_cell
+from pfs.base.cells import text_cell
 from pfs.base.faults import Fault
-from pfs.experiments import ExperimentError, csv_text, folders, plain
+from pfs.experiments import ExperimentError, Options, csv_text, folders, plain
 from pfs.experiments.plan import Row
 from pfs.experiments.run import path_cell
 from pfs.files.instances import read, read_order
@@ -25,7 +24,7 @@ def verdicts(table: Any, shops: Any, layout: str | None = None,
         raise ExperimentError(str(error)) from None
 
 
-def audit(args: argparse.Namespace) -> int:
+def audit(args: Options) -> int:
     """Audits a table of published orders. Prints each one that is wrong, unclear or below the reference, the sheets
     that are left out, and the numbers of orders; a CSV has the verdict on each."""
     folders.check_output(args.csv, [args.table, *(args.instances.rglob("*") if args.instances else ())])

@@ -1,16 +1,15 @@
 """Bounds that the library proves for the instances of a CSV, from the best order of each."""
 from __future__ import annotations
 
-import argparse
 import json
 import sys
 
 import pfs
-from pfs.experiments import ExperimentError, folders, plain, run
+from pfs.experiments import ExperimentError, Options, folders, plain, run
 from pfs.experiments.plan import Row, rows_of
 
 
-def prove(args: argparse.Namespace) -> int:
+def prove(args: Options) -> int:
     """Proves a bound for each instance of a CSV, and adds the column `proved_bound` to it."""
     experiment = folders.started(args.csv)
     copies = {run.path_cell(each["instance"]): each for each in experiment.runs}

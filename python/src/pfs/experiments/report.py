@@ -2,7 +2,6 @@
 deviations (RPD). Runs that failed are only counted."""
 from __future__ import annotations
 
-import argparse
 import itertools
 import math
 import os
@@ -19,9 +18,10 @@ import pandas as pd
 from matplotlib.figure import Figure
 from matplotlib.ticker import NullLocator
 
-from pfs.base.atomic import atomic_write, text_cell
+from pfs.base.atomic import atomic_write
 from pfs.base.benchmarks import canonical, taillard_rows
-from pfs.experiments import ExperimentError, csv_text, listed, plain, statistics
+from pfs.base.cells import text_cell
+from pfs.experiments import ExperimentError, Options, csv_text, listed, plain, statistics
 from pfs.experiments.folders import check_output, write_text
 from pfs.experiments.plan import MOST_MAKESPAN, reference_for, reference_of, rows_of
 from pfs.experiments.statistics import SETTING, SIZE, setting_names, size_name
@@ -61,7 +61,7 @@ WAY_POINTS = 300
 Axis: TypeAlias = Any
 
 
-def report(args: argparse.Namespace) -> int:
+def report(args: Options) -> int:
     """Writes the tables and the plots."""
     if len({*map(os.path.realpath, args.csv)}) < len(args.csv):
         raise ExperimentError("a CSV is named twice, and its runs would count twice")

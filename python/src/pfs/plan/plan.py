@@ -8,7 +8,8 @@ from typing import Any, NamedTuple
 
 import numpy as np
 
-from pfs.base.names import CLOCK, amount, shown
+from pfs.base.names import shown
+from pfs.base.units import CLOCK, amount
 from pfs.plan.orders import AFTER_ORDER, FoundOrder, filled
 from pfs.schedules.calendar import Calendar, Clock, begin_of, needed, text_of
 from pfs.schedules.report import JOBS, Report, rows_of, text_table
