@@ -47,7 +47,7 @@ class Plan:
     @cached_property
     def table(self) -> str:
         """What tells its table from others."""
-        return digest_of(self.shop)
+        return digest_of(self.shop)[:16]
 
     def know(self, least: int, table: str) -> bool:
         """Use a bound that is known of a table, unless that is another one. Return whether it is used."""
