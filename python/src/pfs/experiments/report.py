@@ -2,7 +2,6 @@
 deviations (RPD). Runs that failed are only counted."""
 from __future__ import annotations
 
-import argparse
 import functools
 import itertools
 import math
@@ -20,10 +19,11 @@ import pandas as pd
 from matplotlib.figure import Figure
 from matplotlib.ticker import NullLocator
 
-from pfs.base.atomic import atomic_write, text_cell
+from pfs.base.atomic import atomic_write
 from pfs.base.benchmarks import canonical, taillard_rows
+from pfs.base.cells import text_cell
 from pfs.base.version import VERSION
-from pfs.experiments import ExperimentError, csv_text, listed, plain, statistics
+from pfs.experiments import ExperimentError, Options, csv_text, listed, plain, statistics
 from pfs.experiments.folders import check_output, folder_of, write_text
 from pfs.experiments.plan import MOST_MAKESPAN, Row, reference_for, reference_of, rows_of
 from pfs.experiments.run import path_cell, proofs_of
@@ -64,7 +64,7 @@ WAY_POINTS = 300
 Axis: TypeAlias = Any
 
 
-def report(args: argparse.Namespace) -> int:
+def report(args: Options) -> int:
     """Writes the tables and the plots."""
     if len({*map(os.path.realpath, args.csv)}) < len(args.csv):
         raise ExperimentError("a CSV is named twice, and its runs would count twice")

@@ -8,7 +8,8 @@ from typing import Any, NamedTuple
 
 import numpy as np
 
-from pfs.base.names import CLOCK, amount, shown
+from pfs.base.names import shown
+from pfs.base.units import CLOCK, amount
 from pfs.plan.orders import AFTER_ORDER, FoundOrder, filled
 from pfs.schedules.calendar import Calendar, Clock, begin_of, needed, text_of
 from pfs.schedules.report import JOBS, Report, rows_of, text_table
@@ -46,7 +47,7 @@ class Plan:
     @cached_property
     def table(self) -> str:
         """What tells its table from others."""
-        return digest_of(self.shop)
+        return digest_of(self.shop)[:16]
 
     def know(self, least: int, table: str) -> bool:
         """Use a bound that is known of a table, unless that is another one. Return whether it is used."""
