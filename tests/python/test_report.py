@@ -484,8 +484,8 @@ def test_the_table_of_sizes_has_each_method_and_published_mean(report: Reported,
     assert cells_of(sizes) == [["jobs×machines", "5% & more", "mine_1", "part"], ["20×5", "0.500", "1.500", "5.000"],
                                ["mean", "0.500", "1.500", "5.000"]]
     note = ("Mean RPD, {percent}, relative to the makespan in the column reference. 2 instances of each size; 1 seed; "
-            f"pfs {pfs.__version__}. Compared are the instances and seeds that all have: part lacks runs of 20-2, 50-0, "
-            "50-1. Not audited, only stated: 5{percent} {and} more, mine{under}1, part.")
+            f"pfs {pfs.__version__}. Compared are the instances and seeds that all have: part lacks runs of 20-2, "
+            "50-0, 50-1. Not audited, only stated: 5{percent} {and} more, mine{under}1, part.")
     assert sizes.with_suffix(".md").read_text().endswith(
         "\n" + note.format(percent="%", under="_", **{"and": r"\&"}) + "\n")
     assert "{\\par\\footnotesize " + note.format(percent=r"\%", under=r"\_", **{"and": r"\&"}) + "\\par}" in (
@@ -515,8 +515,8 @@ def test_the_table_of_sizes_has_each_method_and_published_mean(report: Reported,
             ("c", 50, 2, 104)))).status == 0
     lines = sizes.with_suffix(".md").read_text().splitlines()
     assert lines[2:] == ["| 20×5 | 1.250 ± 0.354 |", "| 50×5 | 2.000 ± 2.828 |", "| mean | 1.625 |", "",
-                         "Mean RPD, %, relative to the best makespan of any of these runs. Instances: 20×5 2, 50×5 1; 2 "
-                         "seeds: the mean of their means ± its standard deviation; time factor 2; pfs "
+                         "Mean RPD, %, relative to the best makespan of any of these runs. Instances: 20×5 2, 50×5 1; "
+                         "2 seeds: the mean of their means ± its standard deviation; time factor 2; pfs "
                          f"{pfs.__version__}. Not audited, only stated: out."]
     assert cells_of(sizes)[1:] == [["20×5", "1.250"], ["50×5", "2.000"], ["mean", "1.625"]]
 

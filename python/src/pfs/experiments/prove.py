@@ -1,4 +1,4 @@
-"""Bounds that the library proves for the instances of a CSV, from the best order of each, and the orders that it finds."""
+"""Bounds that the library proves for the instances of a CSV, from the best order of each, and shorter orders."""
 from __future__ import annotations
 
 import hashlib

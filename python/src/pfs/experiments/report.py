@@ -176,7 +176,8 @@ def read_one(path: str, name: str) -> pd.DataFrame:
     read = pd.DataFrame({**usual, **row, "path": path, "line": str(line)}
                         for line, row in enumerate(rows_of(path, ["instance", "makespan"]), 2))
     read.loc[read["status"].ne("ok") | read["makespan"].eq(""), ["makespan", "cells", "gap_percent", "seconds"]] = ""
-    runs = read[["instance", "seed", "path"]].assign(given=read["instance"], method=read["method"].replace("", name), row=read.to_dict("records"))
+    runs = read[["instance", "seed", "path"]].assign(given=read["instance"], method=read["method"].replace("", name),
+                                                     row=read.to_dict("records"))
     runs = runs.join(numbers_in(read, list(GREATEST), path))
     runs["way"] = [way_of(*row) for row in zip(read["trajectory"], runs["makespan"], read["line"], read["path"])]
     runs.loc[runs["time_factor"].notna(), "rounds"] = float("nan")
@@ -277,7 +278,8 @@ def write_sizes(shared: pd.DataFrame, published: list[pd.DataFrame], folder: pat
     """Writes the mean RPD, a row for each size and a column for each setting, and means of the columns that have all
     sizes. Where there are several seeds, it is the mean of their means, with the standard deviation of these."""
     by_seed = shared.pivot_table(index=[*SIZE, "seed"], columns=SETTING, values="rpd").groupby(level=SIZE)
-    means, spread = (each.set_axis(setting_names(list(each.columns)), axis=1) for each in (by_seed.mean(), by_seed.std()))
+    means, spread = by_seed.mean(), by_seed.std()
+    means, spread = (each.set_axis(setting_names(list(means.columns)), axis=1) for each in (means, spread))
     for each in published:
         means = means.join(each, rsuffix=" (published)")
     heads = ["jobs×machines", *means.columns]

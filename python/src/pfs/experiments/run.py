@@ -292,7 +292,7 @@ def proofs_of(folder: pathlib.Path) -> dict[str, Proof]:
     except ValueError:
         found = None
     if not isinstance(found, dict) or not all(
-            isinstance(each, dict) and [type(each.get(key)) for key in ("bound", "makespan", "order")] == [int, int, str]
+            isinstance(each, dict) and [*map(type, map(each.get, ("bound", "makespan", "order")))] == [int, int, str]
             and 0 <= each["bound"] <= each["makespan"] for each in found.values()):
         raise ExperimentError(f"{path} is damaged: delete it, and prove again")
     return found
