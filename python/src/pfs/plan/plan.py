@@ -55,12 +55,12 @@ class Plan:
         return self.least == least
 
     def hold(self, jobs: Iterable[int]) -> None:
-        """Hold these jobs too, behind those that are held."""
+        """Hold these jobs too, after those that are held."""
         self.held = list(dict.fromkeys([*self.held, *jobs]))
         self.order = list(dict.fromkeys([*self.held, *self.order]))
 
     def fill(self) -> list[int]:
-        """Insert the jobs that have no place at their best ones behind the held jobs, and return them."""
+        """Insert the jobs that have no place at their best ones after the held jobs, and return them."""
         return filled(self.shop, self.order, len(self.held))
 
     def search(self, seed: int = 0, method: str = "iterated-greedy", take: int | None = None,
