@@ -377,7 +377,7 @@ def served(monkeypatch: pytest.MonkeyPatch, *words: str) -> tuple[Any, Any]:
         monkeypatch.setattr(name, value)
     assert web.serve(web.words().parse_args(["--no-browser", *words])) == 0
     server.return_value.run.assert_called_once_with()
-    return made.call_args.args, server.call_args.kwargs
+    return made.call_args.args[:3], server.call_args.kwargs
 
 
 def test_the_names_and_the_proxy_of_a_server(tmp_path: pathlib.Path, monkeypatch: pytest.MonkeyPatch,

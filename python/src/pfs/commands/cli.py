@@ -9,7 +9,6 @@ import sys
 from collections.abc import Callable
 from typing import Any, NoReturn, TextIO
 
-from pfs.base.checkout import version
 from pfs.base.faults import Fault, Refused, TableFault
 from pfs.base.names import shown
 
@@ -35,6 +34,8 @@ class ShowVersion(argparse.Action):
         super().__init__(option_strings, argparse.SUPPRESS, nargs=0, help="show the version and exit")
 
     def __call__(self, parser: argparse.ArgumentParser, *_: Any) -> None:
+        # What it needs takes longer to import than many a program runs.
+        from pfs.base.checkout import version
         print(f"pfs {version()}")
         parser.exit()
 

@@ -55,12 +55,12 @@ class Plan:
         return self.least == least
 
     def hold(self, jobs: Iterable[int]) -> None:
-        """Hold these jobs too, behind those that are held."""
+        """Hold these jobs too, after those that are held."""
         self.held = list(dict.fromkeys([*self.held, *jobs]))
         self.order = list(dict.fromkeys([*self.held, *self.order]))
 
     def fill(self) -> list[int]:
-        """Insert the jobs that have no place at their best ones behind the held jobs, and return them."""
+        """Insert the jobs that have no place at their best ones after the held jobs, and return them."""
         return filled(self.shop, self.order, len(self.held))
 
     def search(self, seed: int = 0, method: str = "iterated-greedy", take: int | None = None,
@@ -165,9 +165,9 @@ class Plan:
         """The plan of what is left at a moment, and the names of the jobs that are finished. Machines are down until
         these moments. The jobs that have begun are held, and the first ones of this order; jobs without a place come
         last. The order is in a file, if there is a path."""
-        shop, order, now = self.shop, self.order, begin_of(moment)
+        shop, order = self.shop, self.order
         clock = self.clock or Clock(needed(self.calendar, "`now`"), shop)
-        calendar = clock.calendar
+        calendar, now = clock.calendar, begin_of(moment)
         if now < calendar.begin:
             raise ValueError(f"`now`: {now} is before `begin`")
         at = clock.time_at(now)
