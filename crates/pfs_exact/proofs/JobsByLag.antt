@@ -16,7 +16,7 @@ use Rattle.pfs_base.specs.FlowShop.{FlowShop}
 use Rattle.pfs_order.specs.Sequence.{all_jobs}
 use Rattle.pfs_order.proofs.Published.Sequences.{length-all_jobs}
 use Rattle.pfs_exact.specs.Private.Lags.{AreLags, Lag, lag_of, shorter_of}
-use Rattle.pfs_exact.proofs.Through.{weight}
+use Rattle.pfs_exact.proofs.TwoMachines.{weight}
 
 -- ---- lists of which a part has one value and the rest another
 

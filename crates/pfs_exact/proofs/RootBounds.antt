@@ -11,8 +11,8 @@ use Rattle.pfs_audit.proofs.Published.LeastTimes.{head_along, least-range-le}
 use Rattle.pfs_audit.proofs.Published.Ranges.{sum_by-below-suc}
 use Rattle.pfs_exact.specs.Private.Nodes.{IsRest, IsStart}
 use Rattle.pfs_exact.proofs.Heads.{first}
-use Rattle.pfs_exact.proofs.Through.{row}
-use Rattle.pfs_exact.proofs.Sides.{first_small}
+use Rattle.pfs_exact.proofs.TwoMachines.{row}
+use Rattle.pfs_exact.proofs.GrownEnds.{first_small}
 
 pub before_start : (shop : FlowShop) (machine time : ℕ) → time ≡ least_on shop 0 machine → IsStart shop [] [] machine time
 before_start shop machine time is job more full =

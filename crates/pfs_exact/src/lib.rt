@@ -7,6 +7,7 @@ mod branch;
 mod children;
 mod eights;
 mod ends;
+mod examples;
 mod lanes;
 mod node;
 mod pairs;

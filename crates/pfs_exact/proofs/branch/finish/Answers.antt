@@ -2,7 +2,7 @@ use Rattle.std.proofs.Common.{arith, length, ap, sym, ◌∙◌}
 use Rattle.pfs_base.specs.Paths.{makespan}
 use Rattle.pfs_order.specs.Sequence.{Sequence}
 use Rattle.pfs_order.proofs.Published.Sequences.{length-le-size}
-use Rattle.pfs_exact.proofs.Sides.{ends_all}
+use Rattle.pfs_exact.proofs.GrownEnds.{ends_all}
 use Rattle.pfs_exact.proofs.branch.finish.Goals as goal
 
 pub span_of-span-requires-clause-few : goal.span_of-span-requires-clause-few

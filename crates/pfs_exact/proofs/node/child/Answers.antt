@@ -1,7 +1,7 @@
 use Rattle.std.proofs.Common.{◌-◌, [], ◌∷◌, ◌++◌, get_or, ap, sym, ◌∙◌, subst, arith}
 use Rattle.pfs_exact.specs.declared.node.Node.{Node}
 use Rattle.pfs_exact.specs.Private.Nodes.{IsNode, IsRest, IsStart, put_of}
-use Rattle.pfs_exact.proofs.Machines.{front_left, front_rest, back_left, back_start}
+use Rattle.pfs_exact.proofs.MachineBounds.{front_left, front_rest, back_left, back_start}
 use Rattle.pfs_exact.proofs.node.child.Goals as goal
 use Rattle.pfs_exact.proofs.node.child.Goals.{then-forward, else-forward}
 

@@ -2,7 +2,7 @@ use Rattle.std.proofs.Common.{◌≡◌, ℕ, suc, ◌+◌, ◌-◌, ◌∷◌, 
 use Rattle.pfs_base.specs.FlowShop.{time_of}
 use Rattle.pfs_exact.specs.Private.Nodes.{AreRests, IsRest}
 use Rattle.pfs_base.proofs.Published.Partly.{partly_none, partly_more}
-use Rattle.pfs_exact.proofs.Machines.{IsAfter, after-le, after_max, after_on, after_rest, back_rest}
+use Rattle.pfs_exact.proofs.MachineBounds.{IsAfter, after-le, after_max, after_on, after_rest, back_rest}
 use Rattle.pfs_exact.proofs.node.grow_back.Goals as goal
 
 pub loop-turn-init : goal.loop-turn-init

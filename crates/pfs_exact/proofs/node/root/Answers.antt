@@ -2,7 +2,7 @@ use Rattle.std.proofs.Common.{[], ◌-◌, sym, subst, arith}
 use Rattle.std.proofs.lemmas.List.{get_or-replicate}
 use Rattle.pfs_exact.specs.declared.prove.TheConstants.{MOST_PROVED_MACHINES}
 use Rattle.pfs_exact.specs.Private.Nodes.{IsRest, IsStart}
-use Rattle.pfs_exact.proofs.Machines.{start_zero, rest_zero, left_all}
+use Rattle.pfs_exact.proofs.MachineBounds.{start_zero, rest_zero, left_all}
 use Rattle.pfs_exact.proofs.node.root.Goals as goal
 
 pub returns : goal.returns

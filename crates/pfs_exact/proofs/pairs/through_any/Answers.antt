@@ -5,7 +5,7 @@ use Rattle.std.proofs.lemmas.List.Sorted.{sum_by-IsPermutation}
 use Rattle.pfs_order.specs.Sequence.{all_jobs}
 use Rattle.pfs_exact.specs.Private.Lags.{Lag, shorter_of}
 use Rattle.pfs_exact.proofs.JobsByLag.{entry_is, jobs, many, sum_drop, time_in, up_to}
-use Rattle.pfs_exact.proofs.Through.{through_ahead, through_behind, through_none}
+use Rattle.pfs_exact.proofs.TwoMachines.{through_ahead, through_behind, through_none}
 use Rattle.pfs_exact.proofs.pairs.through_any.Goals as goal
 
 pub loop-turn-init : goal.loop-turn-init

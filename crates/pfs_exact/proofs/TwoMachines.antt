@@ -15,7 +15,7 @@ use Rattle.pfs_audit.proofs.Published.Orders.{sum_by-order}
 use Rattle.pfs_audit.proofs.Published.Ranges.{sum_by-range-suc}
 use Rattle.pfs_exact.specs.Private.Nodes.{AreAcross, IsFull, IsStart, IsThrough}
 use Rattle.pfs_exact.proofs.Heads.{down, on, reach}
-use Rattle.pfs_exact.proofs.Sides.{from_none}
+use Rattle.pfs_exact.proofs.GrownEnds.{from_none}
 
 -- ---- lists of jobs that pass from one machine to another, at times `one`, `across` and `two`
 

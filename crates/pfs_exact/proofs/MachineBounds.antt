@@ -14,7 +14,7 @@ use Rattle.pfs_audit.specs.Bound.{load_of}
 use Rattle.pfs_audit.proofs.Published.Orders.{sum_by-order}
 use Rattle.pfs_exact.specs.Private.Nodes.{times_on, IsFull, IsLeast, IsLeft, IsOpen, IsRest, IsStart}
 use Rattle.pfs_exact.specs.Private.Nodes.{NoneShorter}
-use Rattle.pfs_exact.proofs.Sides.{front_as, from_front, back_as, from_back, first_small, first_open, last_small, last_open}
+use Rattle.pfs_exact.proofs.GrownEnds.{front_as, from_front, back_as, from_back, first_small, first_open, last_small, last_open}
 use Rattle.pfs_exact.proofs.Heads.{along, down, down_last, first, on, on_last, reach}
 use Rattle.pfs_base.proofs.Published.HeadRows.{span_is}
 

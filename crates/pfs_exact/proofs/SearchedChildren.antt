@@ -9,7 +9,7 @@ use Rattle.pfs_order.specs.Sequence.{IsSequence}
 use Rattle.pfs_order.proofs.Published.Sequences.{IsSequence-cons, length-le-size}
 use Rattle.pfs_exact.specs.MostNodes.{most_nodes}
 use Rattle.pfs_exact.specs.Private.Nodes.{IsOpen}
-use Rattle.pfs_exact.proofs.Sides.{absent}
+use Rattle.pfs_exact.proofs.GrownEnds.{absent}
 
 -- these are at neither end, and none of their numbers is below the goal; with many jobs between, each took at most as many
 -- nodes as there can be with one job less
