@@ -58,7 +58,7 @@ int main(int count, char **words) {
         number = pfs_neh(&instance, order, jobs, &first, &cells);
     rank_jobs(jobs, machines);
     if (number == PFS_OK)
-        number = pfs_construct_ties(&instance, PFS_TIES_IDLE, NULL, 0, ranking, jobs, order, jobs, &idle);
+        number = pfs_construct_ties(&instance, PFS_TIES_IDLE, ranking, jobs, order, jobs, &idle);
     if (number == PFS_OK)
         number = insert_last(&instance, jobs, &last);
     pfs_release(&instance);

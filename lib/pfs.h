@@ -330,16 +330,20 @@ int pfs_rounds(struct pfs_instance *instance, const struct pfs_rounds_options *o
 int pfs_prove(struct pfs_instance *instance, uint32_t *order, size_t order_length, uint64_t nodes, uint64_t *makespan,
               uint64_t *bound, uint64_t *left) PFS_CHECKED;
 
-/** @brief Which rounds pfs_iterate makes. */
+/** @brief Which rounds pfs_iterate makes. Each list may be NULL with length 0. */
 struct pfs_iterate_options {
-    uint64_t seed;    /**< seed of the random words */
-    size_t take;      /**< number of jobs that a round removes, 1 to the number of jobs that may move */
-    size_t held;      /**< number of jobs at the front of the order that keep their places */
-    uint32_t first;   /**< the first round, counted from 0 */
-    uint32_t count;   /**< number of rounds; first + count is at most PFS_MOST_ROUNDS */
-    uint32_t partial; /**< most passes over the jobs that are left after the removal, at most PFS_MOST_PASSES */
-    uint32_t passes;  /**< most passes over the whole order, at most PFS_MOST_PASSES */
-    uint32_t ties;    /**< rule for equally good places, PFS_TIES_FIRST or PFS_TIES_IDLE */
+    uint64_t seed;          /**< seed of the random words */
+    size_t take;            /**< number of jobs that a round removes, 1 to the number of jobs that may move */
+    size_t held;            /**< number of jobs at the front of the order that keep their places */
+    uint32_t first;         /**< the first round, counted from 0 */
+    uint32_t count;         /**< number of rounds; first + count is at most PFS_MOST_ROUNDS */
+    uint32_t partial;       /**< most passes over the jobs that are left after the removal, at most PFS_MOST_PASSES */
+    uint32_t passes;        /**< most passes over the whole order, at most PFS_MOST_PASSES */
+    uint32_t ties;          /**< rule for equally good places, PFS_TIES_FIRST or PFS_TIES_IDLE */
+    const uint32_t *accept; /**< chances of longer orders */
+    size_t accept_length;   /**< number of chances */
+    const uint8_t *stay;    /**< for each job 0, or another number if it keeps its order */
+    size_t stay_length;     /**< number of jobs from job 0 on that have a number in `stay` */
 };
 
 /** @brief Makes rounds of an iterated greedy search that also accepts longer orders.
@@ -371,8 +375,6 @@ struct pfs_iterate_options {
  * version 2.1.0.
  *
  * @param[in] options which rounds to make
- * @param[in] accept chances of longer orders
- * @param[in] stay for each job 0, or another number if it keeps its place in relation to the others that do
  * @param[in,out] current all jobs; the order to start from, then the current order after the rounds
  * @param[out] current_makespan makespan of the current order after the rounds
  * @param[in,out] best all jobs, first the held ones of the current order; then the best order after the rounds. At the
@@ -382,9 +384,9 @@ struct pfs_iterate_options {
  *     PFS_REPEATED (the jobs of the current and then of the best order, from the left), PFS_TAKE (take), PFS_HELD
  *     (best), PFS_PASSES (partial, passes), PFS_TIES (ties), PFS_ROUNDS (first + count)
  */
-int pfs_iterate(struct pfs_instance *instance, const struct pfs_iterate_options *options, const uint32_t *accept,
-                size_t accept_length, const uint8_t *stay, size_t stay_length, uint32_t *current, size_t current_length,
-                uint64_t *current_makespan, uint32_t *best, size_t best_length, uint64_t *best_makespan) PFS_CHECKED;
+int pfs_iterate(struct pfs_instance *instance, const struct pfs_iterate_options *options, uint32_t *current,
+                size_t current_length, uint64_t *current_makespan, uint32_t *best, size_t best_length,
+                uint64_t *best_makespan) PFS_CHECKED;
 
 /** @brief Finds the best place of a job in a sequence of other jobs. Time O(km).
  *
@@ -462,19 +464,19 @@ int pfs_construct(struct pfs_instance *instance, const uint32_t *sequence, size_
 
 /** @brief Inserts jobs as pfs_construct does, by a rule for equally good places. Time O(nm) for each.
  *
- * The best place is the one that pfs_insert_ties finds. With PFS_TIES_FIRST the order is that of pfs_construct. Since
- * version 2.1.0.
+ * The best place is the one that pfs_insert_ties finds. With PFS_TIES_FIRST the order is that of pfs_construct. The
+ * sequence is in the front of `order`, before as many free places as there are jobs to insert. Since version 2.1.0.
  *
  * @param[in] ties PFS_TIES_FIRST or PFS_TIES_IDLE
- * @param[in] sequence distinct jobs, to which the others are added
  * @param[in] more jobs to insert, in this order; they are distinct, and not in the sequence
- * @param[out] order the sequence with all of these jobs, sequence_length + more_length of them
+ * @param[in,out] order order_length - more_length distinct jobs, to which the others are added; then the sequence with
+ *     all of these jobs
  * @param[out] makespan makespan of the order
- * @return PFS_OK, or the first fault that pfs_construct returns, or PFS_TIES (ties)
+ * @return PFS_OK, or the first of PFS_NOT_PREPARED (instance), PFS_LENGTH (order_length is less than more_length),
+ *     PFS_JOB or PFS_REPEATED (the jobs of the sequence from the left, then those to insert), PFS_TIES (ties)
  */
-int pfs_construct_ties(struct pfs_instance *instance, uint32_t ties, const uint32_t *sequence, size_t sequence_length,
-                       const uint32_t *more, size_t more_length, uint32_t *order, size_t order_length,
-                       uint64_t *makespan) PFS_CHECKED;
+int pfs_construct_ties(struct pfs_instance *instance, uint32_t ties, const uint32_t *more, size_t more_length,
+                       uint32_t *order, size_t order_length, uint64_t *makespan) PFS_CHECKED;
 
 /** @brief Improves a sequence by passes over a list of its jobs. Time O(km) for each job and pass.
  *

@@ -46,8 +46,9 @@ def test_a_table_with_errors(tmp_path: pathlib.Path, monkeypatch: pytest.MonkeyP
         (one, "IG", own[one], spans[one] - 100, "wrong makespan", f"states {spans[one] - 100}, takes {spans[one]}"),
         (one, "IG", [2, 3, 4, 5, 2, 1], 7, "job twice", "job 2 at places 1 and 5; job 6 is missing"),
         (one, "IG", [0, 3, 4, 5, 6, 1], 7, "job out of range", "job 0 at place 1: the jobs are 1 to 6; job 2 is "),
-        (one, "IG", [job - 1 for job in own[one]], spans[one], "counted from 0",
-         f"others count from 1; counted from 0, it takes {spans[one]}"),
+        (one, "IG", [job - 1 for job in own[one]], spans[one], "valid, counted from 0", "others count from 1"),
+        (one, "IG", [job - 1 for job in own[one]], spans[one] + 1, "counted from 0",
+         f"others count from 1; counted from 0, it takes {spans[one]}, and states {spans[one] + 1}"),
         *((name, "TSM", str([f"J{job - 1}" for job in own[name]]).replace("'", ""), spans[name], "valid", "")
           for name in shops),
         (one, "TSM", [2, 3, 4, 5, 6, 99], 7, "job out of range", "job 6 at place 5: the jobs are 0 to 5; job 0 is ")]
@@ -60,14 +61,14 @@ def test_a_table_with_errors(tmp_path: pathlib.Path, monkeypatch: pytest.MonkeyP
     assert [each[:4] for each in found] == [(at, row[0], row[1], row[3]) for at, row in enumerate(table, 2)]
     for each, (name, _, _, stated, verdict, why) in zip(found, table):
         assert each.verdict.removesuffix(" and optimal") == verdict and why in each.why, each
-        assert each.valid == (verdict == "valid") and (each.makespan == stated or not each.valid)
+        assert each.valid == verdict.startswith("valid") and (each.makespan == stated or not each.valid)
     assert [found[at].bound for at in (0, 3)] == [shop.bound() for shop in (pfs.generate(6, 3, 1), pfs.taillard(1))]
     # The command prints and writes the same.
     assert run("supplement.csv --instances instances --csv audited.csv") == 1
     *printed, last = capsys.readouterr().out.splitlines()
     assert printed == [f"line {each.row}, {each.instance} {each.method}: {each.verdict}: {each.why}"
-                       for each in found if not each.valid]
-    assert re.fullmatch(r"supplement.csv: 13 orders audited, 8 valid \(\d optimal\), 5 wrong", last)
+                       for each in found if each.why]
+    assert re.fullmatch(r"supplement.csv: 14 orders audited, 9 valid \(\d optimal\), 5 wrong", last)
     rows = list(csv.reader(open("audited.csv")))
     assert rows == [["line", *pfs.Audited._fields[1:]], *([str(cell) if cell is not None else "" for cell in each]
                                                           for each in found)]
@@ -86,8 +87,8 @@ def test_the_first_job_is_that_of_most_orders_of_a_method() -> None:
     rows = [{"Problem": "small", "CMAX": 11, "Permutation": order, "method": method}
             for method, order in (("a", "0 1 2"), ("b", "1 2 3"), ("b", "1 2 3"), ("b", "0 1 2"), ("a", [2, 2, 0]))]
     found = pfs.audit(rows, {"small": SMALL})
-    assert [each.verdict for each in found] == ["valid", "valid", "valid", "counted from 0", "job twice"]
-    assert found[3].why == "others count from 1; counted from 0, it takes 11"
+    assert [each.verdict for each in found] == ["valid", "valid", "valid", "valid, counted from 0", "job twice"]
+    assert found[3].why == "others count from 1" and found[3].makespan == 11
     text = "1 orders of b count jobs from 0 and as many from 1: state"
     undecided = pfs.audit(rows[2:], [SMALL])
     assert [each.verdict for each in undecided] == ["unclear", "unclear", "job twice"]
@@ -97,7 +98,7 @@ def test_the_first_job_is_that_of_most_orders_of_a_method() -> None:
     with pytest.raises(ValueError, match=f"row 0: {text}"):
         pfs.audit(rows[2:], [SMALL], strict=True)
     stated = pfs.audit(rows[2:], [SMALL], first=0)
-    assert [each.verdict for each in stated] == ["counted from 1", "valid", "job twice"]
+    assert [each.verdict for each in stated] == ["valid, counted from 1", "valid", "job twice"]
 
 
 @pytest.mark.parametrize(("change", "said"), [
@@ -187,8 +188,8 @@ def test_the_command(tmp_path: pathlib.Path, monkeypatch: pytest.MonkeyPatch,
     assert pathlib.Path("out.csv").read_text() == (
         "line,instance,method,stated,makespan,bound,valid,verdict,why,sheet\n"
         "2,ta001,'=IG,1448,1448,1232,True,valid,,\n")
-    assert run("one.csv --first 1") == 1
-    assert capsys.readouterr().out.startswith("line 2, ta001 =IG: counted from 0: others count from 1; counted from ")
+    assert run("one.csv --first 1") == 0
+    assert capsys.readouterr().out.startswith("line 2, ta001 =IG: valid, counted from 0: others count from 1\n")
     with pytest.raises(ExperimentError, match="none is not a folder"):
         run("one.csv --instances none")
 

@@ -11,6 +11,7 @@ from collections.abc import Callable
 from typing import Any
 from unittest import mock
 
+import pfs
 import pytest
 from support.colours import least_difference
 from support.experiments import Experiment
@@ -482,8 +483,9 @@ def test_the_table_of_sizes_has_each_method_and_published_mean(report: Reported,
     assert report(PAPER + "20-0,20,5,109,part,100\n20-1,20,5,101,part,100\n").status == 0
     assert cells_of(sizes) == [["jobs×machines", "5% & more", "mine_1", "part"], ["20×5", "0.500", "1.500", "5.000"],
                                ["mean", "0.500", "1.500", "5.000"]]
-    note = ("Mean RPD, {percent}. Compared are the instances and seeds that all have: part lacks runs of 20-2, 50-0, "
-            "50-1. Not audited, only stated: 5{percent} {and} more, mine{under}1, part.")
+    note = ("Mean RPD, {percent}, relative to the makespan in the column reference. 2 instances of each size; 1 seed; "
+            f"pfs {pfs.__version__}. Compared are the instances and seeds that all have: part lacks runs of 20-2, "
+            "50-0, 50-1. Not audited, only stated: 5{percent} {and} more, mine{under}1, part.")
     assert sizes.with_suffix(".md").read_text().endswith(
         "\n" + note.format(percent="%", under="_", **{"and": r"\&"}) + "\n")
     assert "{\\par\\footnotesize " + note.format(percent=r"\%", under=r"\_", **{"and": r"\&"}) + "\\par}" in (
@@ -506,6 +508,17 @@ def test_the_table_of_sizes_has_each_method_and_published_mean(report: Reported,
                                ["50×5", "2.000", "", "1.250", "", "0.900"], ["mean", "1.250", "", "0.875", "", ""]]
     assert "Not audited, only stated: P, Q, out, paper." in sizes.with_suffix(".tex").read_text()
     assert column(folder, "best", "instances") == ["100.5", "102"]
+    # The mean over the seeds 1 and 2 of 20x5 is that of 1 and 3, of 50x5 there is one instance; its deviation.
+    assert report("instance,jobs,machines,seed,rounds,makespan,time_factor\n" + "".join(
+        f"{name},{jobs},5,{seed},,{span},2\n" for name, jobs, seed, span in (
+            ("a", 20, 1, 100), ("a", 20, 2, 103), ("b", 20, 1, 102), ("b", 20, 2, 100), ("c", 50, 1, 100),
+            ("c", 50, 2, 104)))).status == 0
+    lines = sizes.with_suffix(".md").read_text().splitlines()
+    assert lines[2:] == ["| 20×5 | 1.250 ± 0.354 |", "| 50×5 | 2.000 ± 2.828 |", "| mean | 1.625 |", "",
+                         "Mean RPD, %, relative to the best makespan of any of these runs. Instances: 20×5 2, 50×5 1; "
+                         "2 seeds: the mean of their means ± its standard deviation; time factor 2; pfs "
+                         f"{pfs.__version__}. Not audited, only stated: out."]
+    assert cells_of(sizes)[1:] == [["20×5", "1.250"], ["50×5", "2.000"], ["mean", "1.625"]]
 
 
 # The plots
@@ -755,19 +768,21 @@ def test_the_plot_of_differences_has_intervals_of_students_distribution(done: Ca
     assert axis.figure._supxlabel.get_text() == "RPD minus that of a, %"
 
 
-def test_differences_are_paired_by_instance_and_seed_in_a_panel_for_each_size(done: Callable[[str], Any]) -> None:
-    """A method without seeds is compared on all of them. Only settings of equal rounds are. The names are those of the
-    tables."""
+def test_differences_are_those_of_the_instances_means_in_a_panel_for_each_size(done: Callable[[str], Any]) -> None:
+    """Seeds of an instance count as one. A method without seeds is compared on all of them. Only settings of equal
+    rounds are. The names are those of the tables."""
     rows = [("i", 20, 5, 100, 1, 110, "m"), ("i", 20, 5, 100, 2, 104, "m"), ("j", 50, 10, 100, 1, 102, "m"),
             ("i", 20, 5, 100, "", 101, "n"), ("j", 50, 10, 100, "", 105, "n"),
             ("i", 20, 5, 200, 1, 103, "m"), ("i", 20, 5, 200, 2, 103, "m"), ("j", 50, 10, 200, 1, 101, "m"),
-            ("i", 20, 5, 200, "", 100, "n"), ("j", 50, 10, 200, "", 100, "n")]
+            ("i", 20, 5, 200, "", 100, "n"), ("j", 50, 10, 200, "", 100, "n"),
+            ("k", 20, 5, 100, 1, 102, "m"), ("k", 20, 5, 100, "", 104, "n"),
+            ("k", 20, 5, 200, 1, 103, "m"), ("k", 20, 5, 200, "", 100, "n")]
     text = "instance,jobs,machines,rounds,seed,makespan,method,reference\n" + "".join(
         f"{','.join(map(str, row))},100\n" for row in rows)
     figure = reports.differences(done(text), None)
-    half = 12.706 * statistics.stdev([-9, -3]) / math.sqrt(2)
+    half = 12.706 * statistics.stdev([-6, 2]) / math.sqrt(2)
     assert {axis.get_title().replace("\n", " "): bars_of(axis) for axis in figure.axes if axis.collections} == {
-        "20×5, 100 rounds": [pytest.approx([-6 - half, -6 + half], abs=0.01)], "20×5, 200 rounds": [[-3, -3]],
+        "20×5, 100 rounds": [pytest.approx([-2 - half, -2 + half], abs=0.01)], "20×5, 200 rounds": [[-3, -3]],
         "50×10, 100 rounds": [[3, 3]], "50×10, 200 rounds": [[-1, -1]]}
     assert figure._supxlabel.get_text() == "RPD minus that of the first setting, %"
     labels = {label.get_text() for axis in figure.axes for label in axis.get_yticklabels()}
@@ -798,7 +813,7 @@ def test_the_labels_of_differences_have_room(done: Callable[[str], Any]) -> None
 TEXTS = {"gap": "Gap to the bound: mean, and range over the seeds; gap to the lower bound, %; jobs×machines",
          "rpd": "Relative percentage deviation: mean, and range over the seeds; RPD, %; jobs×machines",
          "seconds": "Mean relative percentage deviation by time; RPD, %; processor time, s; method",
-         "time": "processor time per table cell, ns; jobs×machines; and maximum", "differences": "intervals of; 95 %",
+         "time": "processor time per table cell, ns; jobs×machines; and maximum", "differences": "intervals of 95 %",
          "trajectory": "Mean relative percentage deviation during the search; mean RPD, %; processor time, s; setting",
          "target": "Time to target: runs that have reached it; share of the runs; processor time, s; setting"}
 

@@ -1,10 +1,13 @@
 #!/usr/bin/env python3
 """The definitions of the crates, and which of them the contracts of public functions rest on: those that such a
-contract cites, and those that these are written with. Run alone it prints a page that lists them.
+contract cites, and those that these are written with. Run alone it prints a page that lists them, or one of the public
+functions and laws.
 
-usage: tests/support/definitions.py"""
+usage: tests/support/definitions.py [functions]"""
 import pathlib
 import re
+import sys
+from collections.abc import Iterator
 from typing import NamedTuple
 
 TOP = pathlib.Path(__file__).resolve().parent.parent.parent
@@ -69,6 +72,23 @@ def all_definitions(crates: pathlib.Path) -> dict[Definition, set[Definition]]:
 
 # Contracts of public functions
 
+def libraries(crates: pathlib.Path) -> list[pathlib.Path]:
+    return [crate for crate in sorted(crates.iterdir())
+            if (crate / "src" / "lib.rt").exists() and crate.name not in OF_TESTS]
+
+
+def exports_of(crate: pathlib.Path) -> tuple[list[str], set[str]]:
+    """The public modules of a crate, and the names that it exports from others."""
+    text = (crate / "src" / "lib.rt").read_text()
+    lists = re.findall(r"^pub use (?!pfs_)[\w:]*::(\{[^}]*\}|\w+);", text, re.MULTILINE)
+    return re.findall(r"^pub mod (\w+);", text, re.MULTILINE), set(WORD.findall(" ".join(lists)))
+
+
+def is_in(path: pathlib.Path, modules: list[str]) -> bool:
+    """Whether a file below a crate's src belongs to one of these modules."""
+    return path.parts[path.parts.index("src") + 1].removesuffix(".rt") in modules
+
+
 def public_parts(path: pathlib.Path, whole: bool, names: set[str]) -> list[str]:
     """The parts of a file that users see: public functions, types and traits, and what is implemented of them."""
     parts = re.split(r"^(?=(?:pub |unsafe |extern \S+ )*(?:fn|impl|trait|struct|enum|const|mod|use|ghost use)\b)",
@@ -101,17 +121,11 @@ def clauses(part: str) -> str:
 def cited(crates: pathlib.Path) -> set[Definition]:
     """The definitions that contracts of public functions cite."""
     found = set()
-    for crate in sorted(crates.iterdir()):
-        if not (crate / "src" / "lib.rt").exists() or crate.name in OF_TESTS:
-            continue
-        # The public modules, and the names that are re-exported from others.
-        text = (crate / "src" / "lib.rt").read_text()
-        modules = re.findall(r"^pub mod (\w+);", text, re.MULTILINE)
-        names = set(WORD.findall(" ".join(re.findall(r"^pub use [\w:]*::(\{[^}]*\}|\w+);", text, re.MULTILINE))))
+    for crate in libraries(crates):
+        modules, names = exports_of(crate)
         for path in crate.glob("src/**/*.rt"):
-            whole = path.relative_to(crate / "src").with_suffix("").parts[0] in modules
             imports = imports_of(path.read_text())
-            for part in public_parts(path, whole, names):
+            for part in public_parts(path, is_in(path, modules), names):
                 found |= {imports[word] for word in WORD.findall(clauses(part)) if word in imports}
     return found
 
@@ -165,5 +179,42 @@ def page(crates: pathlib.Path) -> str:
     return "".join(lines)
 
 
+# A function's comment, and its head or that of the type or trait that has it
+ITEM = re.compile(r"^((?: *///.*\n)*)(?: *#\[.*\n)*(impl\b.*|pub trait .*|(?: {4})?(?:pub )?(?:extern \"C\" )?fn \w+)",
+                  re.MULTILINE)
+FUNCTIONS = """# Public functions and laws
+
+What each does, as its comment in the sources says (`crates/CRATE/src/FILE.rt`). Each is safe, returns on every input \
+that meets its conditions, and meets its contract, which also says what stays unchanged and when each error comes. A \
+law is a function whose contract is a statement about the [definitions](DEFINITIONS.md).
+"""
+
+
+def functions_of(crate: pathlib.Path) -> Iterator[tuple[str, str, str]]:
+    """The file, the name and the comment of each public function of a crate."""
+    modules, names = exports_of(crate)
+    for path in sorted(crate.glob("src/**/*.rt")):
+        file, owner, is_trait = str(path.relative_to(crate / "src").with_suffix("")), "", False
+        for above, head in ITEM.findall(path.read_text()):
+            if head.startswith(("impl", "pub trait")):
+                found = re.match(r"(?:impl(?:<[^{]*?>)?|pub trait) (\w+)(?!.* for )", head)
+                owner, is_trait = found[1] if found else "", head.startswith("pub trait")
+                continue
+            is_member, name = head.startswith(" "), head.rpartition(" ")[2]
+            if not is_member or is_trait or "pub fn" in head:
+                shown = {owner} if is_member else {name} if "pub" in head else set()
+                if "extern" in head or shown - {""} and (is_in(path, modules) or shown & names):
+                    comment = " ".join(line.strip().removeprefix("///").strip() for line in above.splitlines())
+                    yield file, f"{owner}::{name}" if is_member else name, comment.replace("|", "\\|")
+
+
+def functions_page(crates: pathlib.Path) -> str:
+    lines = [FUNCTIONS]
+    for crate in libraries(crates):
+        lines += [f"\n## {crate.name}\n\n| File | Name | What it does |\n|---|---|---|\n"]
+        lines += [f"| {file} | `{name}` | {comment} |\n" for file, name, comment in functions_of(crate)]
+    return "".join(lines)
+
+
 if __name__ == "__main__":
-    print(page(TOP / "crates"), end="")
+    print((functions_page if sys.argv[1:] == ["functions"] else page)(TOP / "crates"), end="")

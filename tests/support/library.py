@@ -60,6 +60,13 @@ def read32(memory: bytes) -> list[int]:
     return array("I", memory).tolist()
 
 
+def with_lists(options: ctypes.Array[ctypes.c_char], accept: ctypes.Array[ctypes.c_char],
+               stay: ctypes.Array[ctypes.c_char], *lengths: int) -> ctypes.Array[ctypes.c_char]:
+    """A `struct pfs_iterate_options` with these lists, from its fields before them."""
+    numbers = array("Q", [ctypes.addressof(accept), lengths[0], ctypes.addressof(stay), lengths[1]])
+    return ctypes.create_string_buffer(options.raw[:-1] + numbers.tobytes())
+
+
 # The functions that work on a prepared instance.
 ON_SHOP = {f"pfs_{name}" for name in (
     "sizes", "faulty_job", "makespan", "makespans", "bound", "table", "neh", "rounds", "iterate", "prove", "insert",
@@ -88,6 +95,9 @@ class Library:
                 given.append(buffers[-1])
             else:
                 given.append((ctypes.c_uint32 if argument.bits == 32 else ctypes.c_uint64)(argument.value))
+        if name == "pfs_iterate":
+            lengths = [argument.value for argument in arguments[6:9] if isinstance(argument, Number)]
+            given[4:9] = [with_lists(buffers[1], buffers[2], buffers[3], *lengths)]
         number = self.on_instance(name, arguments[:4], given) if name in ON_SHOP else int(self.functions[name](*given))
         contents = [argument.content for argument in arguments if isinstance(argument, Memory)]
         return Answer(number, [buffer.raw[:len(content)] for buffer, content in zip(buffers, contents)])

@@ -86,9 +86,15 @@ static int rounds(uint32_t *order, size_t length, uint32_t first, size_t take, u
 
 static int iterate(uint32_t *orders, size_t length, uint32_t first, size_t take, size_t fixed, uint32_t passes,
                    uint32_t ties) {
-    struct pfs_iterate_options options = {.seed = 7, .take = take, .held = fixed, .first = first, .count = 1,
-                                          .partial = 1, .passes = passes, .ties = ties};
-    return pfs_iterate(shop, &options, NULL, 0, NULL, 0, orders, length, &out.makespan, orders + 3, 3, &out.bound);
+    struct pfs_iterate_options options = {.seed = 7,
+                                          .take = take,
+                                          .held = fixed,
+                                          .first = first,
+                                          .count = 1,
+                                          .partial = 1,
+                                          .passes = passes,
+                                          .ties = ties};
+    return pfs_iterate(shop, &options, orders, length, &out.makespan, orders + 3, 3, &out.bound);
 }
 
 /* Two lists that a call reads and overwrites. */
@@ -163,8 +169,8 @@ static int call_named(const char *name) {
     if (IS("construct"))
         return finds_best(pfs_construct(shop, NUMBERED + 2, 1, NUMBERED, 2, out.list, 3, &out.makespan));
     if (IS("construct_ties"))
-        return finds_best(
-            pfs_construct_ties(shop, PFS_TIES_IDLE, NUMBERED + 2, 1, NUMBERED, 2, out.list, 3, &out.makespan));
+        return out.list[0] = 2,
+               finds_best(pfs_construct_ties(shop, PFS_TIES_IDLE, NUMBERED, 2, out.list, 3, &out.makespan));
     if (IS("local_search"))
         return finds_best(pfs_local_search(shop, (uint32_t[]){1}, 1, 1, in_place(NUMBERED), 3, &out.makespan));
     if (IS("local_search_ties"))
@@ -206,10 +212,11 @@ static int call_named(const char *name) {
     return PFS_OK;
 }
 
-static const char *const NAMES[] = {"sizes", "faulty_job", "makespan",    "makespans",  "bound",        "table", "neh",
-                                    "rounds", "iterate",   "prove",       "insert",     "insert_ties",  "insertions",
-                                    "heads_tails", "construct", "construct_ties", "local_search", "local_search_ties",
-                                    "write", "generate",   "random",      "read",       "read_order",   "write_order"};
+static const char *const NAMES[] = {
+    "sizes",      "faulty_job",  "makespan",  "makespans",      "bound",        "table",
+    "neh",        "rounds",      "iterate",   "prove",          "insert",       "insert_ties",
+    "insertions", "heads_tails", "construct", "construct_ties", "local_search", "local_search_ties",
+    "write",      "generate",    "random",    "read",           "read_order",   "write_order"};
 enum { ON_SHOP = 19 };
 
 /* What is wrong in a call on an instance, after the instance itself. */
@@ -230,34 +237,36 @@ static void wrong_calls(void) {
     CALL(PFS_ROUNDS, rounds(in_place(NUMBERED), 3, PFS_MOST_ROUNDS, 3, 100));
     CALL(PFS_LENGTH, pfs_prove(shop, in_place(OUTSIDE), 2, 7, &out.makespan, &out.bound, &out.cells));
     CALL(PFS_REPEATED, pfs_prove(shop, in_place(TWICE), 3, 7, &out.makespan, &out.bound, &out.cells));
-    CALL(PFS_LENGTH, iterate(both(OUTSIDE, OUTSIDE), 2, 0, 0, 0, 101, 2));
-    CALL(PFS_REPEATED, iterate(both(TWICE, OUTSIDE), 3, 0, 0, 0, 101, 2));
-    CALL(PFS_JOB, iterate(both(BEST, OUTSIDE), 3, 0, 0, 0, 101, 2));
-    CALL(PFS_TAKE, iterate(both(BEST, NUMBERED), 3, 0, 0, 1, 101, 2));
-    CALL(PFS_TAKE, iterate(both(BEST, NUMBERED), 3, 0, 3, 1, 101, 2));
-    CALL(PFS_TAKE, iterate(both(BEST, NUMBERED), 3, 0, 1, SIZE_MAX, 101, 2));
-    CALL(PFS_HELD, iterate(both(BEST, NUMBERED), 3, 0, 2, 1, 101, 2));
+    CALL(PFS_LENGTH, iterate(both(OUTSIDE, OUTSIDE), 2, 0, 0, 0, 101, UINT32_MAX));
+    CALL(PFS_REPEATED, iterate(both(TWICE, OUTSIDE), 3, 0, 0, 0, 101, UINT32_MAX));
+    CALL(PFS_JOB, iterate(both(BEST, OUTSIDE), 3, 0, 0, 0, 101, UINT32_MAX));
+    CALL(PFS_TAKE, iterate(both(BEST, NUMBERED), 3, 0, 0, 1, 101, UINT32_MAX));
+    CALL(PFS_TAKE, iterate(both(BEST, NUMBERED), 3, 0, 3, 1, 101, UINT32_MAX));
+    CALL(PFS_TAKE, iterate(both(BEST, NUMBERED), 3, 0, 1, SIZE_MAX, 101, UINT32_MAX));
+    CALL(PFS_HELD, iterate(both(BEST, NUMBERED), 3, 0, 2, 1, 101, UINT32_MAX));
     CALL(PFS_PASSES, iterate(both(BEST, BEST), 3, 0, 2, 1, 101, UINT32_MAX));
     CALL(PFS_ROUNDS, iterate(both(BEST, BEST), 3, PFS_MOST_ROUNDS, 2, 1, 100, PFS_TIES_IDLE));
     CALL(PFS_TIES, iterate(both(BEST, BEST), 3, PFS_MOST_ROUNDS, 2, 1, 100, PFS_TIES_IDLE + 1));
     CALL(PFS_JOB, pfs_insert(shop, OUTSIDE, 3, 9, &out.place, &out.makespan));
     CALL(PFS_REPEATED, pfs_insert(shop, BEST, 2, 0, &out.place, &out.makespan));
-    CALL(PFS_JOB, pfs_insert_ties(shop, 2, OUTSIDE, 3, 9, &out.place, &out.makespan));
-    CALL(PFS_REPEATED, pfs_insert_ties(shop, 2, BEST, 2, 0, &out.place, &out.makespan));
-    CALL(PFS_TIES, pfs_insert_ties(shop, 2, BEST, 2, 2, &out.place, &out.makespan));
+    CALL(PFS_JOB, pfs_insert_ties(shop, UINT32_MAX, OUTSIDE, 3, 9, &out.place, &out.makespan));
+    CALL(PFS_REPEATED, pfs_insert_ties(shop, UINT32_MAX, BEST, 2, 0, &out.place, &out.makespan));
+    CALL(PFS_TIES, pfs_insert_ties(shop, UINT32_MAX, BEST, 2, 2, &out.place, &out.makespan));
     CALL(PFS_LENGTH, pfs_insertions(shop, OUTSIDE, 2, 9, out.makespans, 2));
     CALL(PFS_JOB, pfs_insertions(shop, BEST, 2, UINT32_MAX, out.makespans, 3));
     CALL(PFS_LENGTH, pfs_heads_tails(shop, OUTSIDE, 2, out.starts, 4, out.ends, 6));
     CALL(PFS_JOB, pfs_heads_tails(shop, OUTSIDE, 2, out.starts, 4, out.ends, 4));
     CALL(PFS_LENGTH, pfs_construct(shop, OUTSIDE, 2, OUTSIDE, 1, out.list, 2, &out.makespan));
     CALL(PFS_REPEATED, pfs_construct(shop, BEST, 2, (uint32_t[]){0, 3}, 2, out.list, 4, &out.makespan));
-    CALL(PFS_LENGTH, pfs_construct_ties(shop, 2, OUTSIDE, 2, OUTSIDE, 1, out.list, 2, &out.makespan));
-    CALL(PFS_REPEATED, pfs_construct_ties(shop, 2, BEST, 2, (uint32_t[]){0, 3}, 2, out.list, 4, &out.makespan));
-    CALL(PFS_TIES, pfs_construct_ties(shop, 2, BEST, 2, BEST + 2, 1, out.list, 3, &out.makespan));
+    CALL(PFS_LENGTH, pfs_construct_ties(shop, UINT32_MAX, OUTSIDE, 3, in_place(OUTSIDE), 2, &out.makespan));
+    CALL(PFS_JOB, pfs_construct_ties(shop, UINT32_MAX, BEST, 1, in_place(OUTSIDE), 3, &out.makespan));
+    CALL(PFS_REPEATED, pfs_construct_ties(shop, UINT32_MAX, (uint32_t[]){0, 3}, 2, in_place(BEST), 3, &out.makespan));
+    CALL(PFS_TIES, pfs_construct_ties(shop, UINT32_MAX, BEST + 2, 1, in_place(BEST), 3, &out.makespan));
     CALL(PFS_JOB, pfs_local_search(shop, OUTSIDE, 3, 999, in_place(BEST), 2, &out.makespan));
     CALL(PFS_PASSES, pfs_local_search(shop, BEST, 3, PFS_MOST_PASSES + 1, in_place(BEST), 3, &out.makespan));
-    CALL(PFS_JOB, pfs_local_search_ties(shop, 2, OUTSIDE, 3, 999, in_place(BEST), 2, &out.makespan));
-    CALL(PFS_PASSES, pfs_local_search_ties(shop, 2, BEST, 3, PFS_MOST_PASSES + 1, in_place(BEST), 3, &out.makespan));
+    CALL(PFS_JOB, pfs_local_search_ties(shop, UINT32_MAX, OUTSIDE, 3, 999, in_place(BEST), 2, &out.makespan));
+    CALL(PFS_PASSES,
+         pfs_local_search_ties(shop, UINT32_MAX, BEST, 3, PFS_MOST_PASSES + 1, in_place(BEST), 3, &out.makespan));
     CALL(PFS_TIES, pfs_local_search_ties(shop, UINT32_MAX, BEST, 3, PFS_MOST_PASSES, in_place(BEST), 3, &out.makespan));
     CALL(PFS_LAYOUT, pfs_write(shop, &BLOCK.notes, 2, out.text, 0, &out.length));
     CALL(PFS_ROOM, (due.length = 47, pfs_write(shop, &BLOCK.notes, PFS_ORLIB, out.text, 46, &out.length)));
@@ -297,7 +306,7 @@ static void no_lists(void) {
     CALL(PFS_OK, pfs_heads_tails(shop, NULL, 0, NULL, 0, NULL, 0));
     CALL(PFS_OK, (due.makespan = 0, pfs_construct(shop, NULL, 0, NULL, 0, NULL, 0, &out.makespan)));
     CALL(PFS_OK, (due.makespan = 0, pfs_local_search(shop, NULL, 0, 1, NULL, 0, &out.makespan)));
-    CALL(PFS_OK, (due.makespan = 0, pfs_construct_ties(shop, 1, NULL, 0, NULL, 0, NULL, 0, &out.makespan)));
+    CALL(PFS_OK, (due.makespan = 0, pfs_construct_ties(shop, 1, NULL, 0, NULL, 0, &out.makespan)));
     CALL(PFS_OK, (due.makespan = 0, pfs_local_search_ties(shop, 1, NULL, 0, 1, NULL, 0, &out.makespan)));
     CALL(PFS_OK, pfs_random(7, 3, NULL, 0));
     CALL(PFS_LENGTH, pfs_prepare(NULL, 0, 3, 2, shop));

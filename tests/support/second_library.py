@@ -17,6 +17,7 @@ OK, SIZE, LENGTH, TIME, JOB, REPEATED, TAKE, PASSES, ROUNDS, SEED, LAYOUT, BLOCK
 HELD, TIES = 16, 17
 MOST_ROUNDS = 1_000_000
 MOST_PASSES = 100
+MOST_TIES = 1
 MOST_BLOCKS = 1_000
 MOST_MAKESPAN = 999_999_999_999_999_999
 LAYOUTS = [b"taillard", b"orlib"]
@@ -210,11 +211,9 @@ def bounds_of_pairs(shop: Instance) -> Iterator[int]:
             for at, job in enumerate(order))
 
 
-# How `struct pfs_iterate_options` lies in memory: the seed, `take`, `held`, `first`, `count`, `partial`, `passes` and
-# `ties`, and 4 bytes to a multiple of 8.
+# How `struct pfs_iterate_options` begins in memory, up to its lists: the seed, `take`, `held`, `first`, `count`,
+# `partial`, `passes` and `ties`, and 4 bytes to a multiple of 8.
 ITERATE_OPTIONS = struct.Struct("=QQQIIIII4x")
-# The greatest number of a rule for equally good places.
-LAST_RULE = 1
 
 
 def pfs_iterate(shop: Instance, options: bytearray, accept: bytearray, accept_length: int, stay: bytearray,
@@ -228,7 +227,7 @@ def pfs_iterate(shop: Instance, options: bytearray, accept: bytearray, accept_le
     expect(1 <= take <= len([job for job in kept[held:] if job not in staying]), TAKE)
     expect(kept[:held] == shortest[:held], HELD)
     expect(max(partial, passes) <= MOST_PASSES, PASSES)
-    expect(ties <= LAST_RULE, TIES)
+    expect(ties <= MOST_TIES, TIES)
     expect(first + count <= MOST_ROUNDS, ROUNDS)
     chances = read32(accept)[:accept_length]
     kept, shortest = iterated(shop, kept, shortest, (seed, take, held, first, count, partial, passes, ties),
@@ -306,7 +305,7 @@ def others_of(shop: Instance, sequence: bytearray, length: int, job: int) -> lis
 def pfs_insert_ties(shop: Instance, ties: int, sequence: bytearray, length: int, job: int, place: bytearray,
                     span: bytearray) -> None:
     others = others_of(shop, sequence, length, job)
-    expect(ties <= LAST_RULE, TIES)
+    expect(ties <= MOST_TIES, TIES)
     order = placed(shop, others, 0, job, ties)
     put64(place, order.index(job))
     put64(span, makespan(shop, order))
@@ -332,20 +331,25 @@ def pfs_heads_tails(shop: Instance, sequence: bytearray, length: int, heads: byt
     put64(tails, *[makespan(rest, places[place:]) for place in range(length) for rest in rests])
 
 
-def pfs_construct_ties(shop: Instance, ties: int, sequence: bytearray, length: int, more: bytearray, more_length: int,
-                       order: bytearray, order_length: int, span: bytearray) -> None:
-    expect(order_length == length + more_length, LENGTH)
-    made = distinct(shop.jobs, read32(sequence)[:length])
+def pfs_construct_ties(shop: Instance, ties: int, more: bytearray, more_length: int, order: bytearray,
+                       order_length: int, span: bytearray) -> None:
+    length = order_length - more_length
+    expect(length >= 0, LENGTH)
+    made = distinct(shop.jobs, read32(order)[:length])
     inserted = distinct(shop.jobs, [*made, *read32(more)[:more_length]], length)[length:]
-    expect(ties <= LAST_RULE, TIES)
+    expect(ties <= MOST_TIES, TIES)
     for job in inserted:
         made = placed(shop, made, 0, job, ties)
     put32(order, made)
     put64(span, makespan(shop, made))
 
 
-def pfs_construct(shop: Instance, *others: Any) -> None:
-    pfs_construct_ties(shop, 0, *others)
+def pfs_construct(shop: Instance, sequence: bytearray, length: int, more: bytearray, more_length: int,
+                  order: bytearray, order_length: int, span: bytearray) -> None:
+    expect(order_length == length + more_length, LENGTH)
+    made = bytearray(sequence[:4 * length]) + bytes(4 * more_length)
+    pfs_construct_ties(shop, 0, more, more_length, made, order_length, span)
+    order[:4 * order_length] = made
 
 
 def to_move(shop: Instance, moved: bytearray, moved_length: int, passes: int, sequence: bytearray,
@@ -370,7 +374,7 @@ def pfs_local_search(shop: Instance, moved: bytearray, moved_length: int, passes
 def pfs_local_search_ties(shop: Instance, ties: int, moved: bytearray, moved_length: int, passes: int,
                           sequence: bytearray, length: int, span: bytearray) -> None:
     made, each = to_move(shop, moved, moved_length, passes, sequence, length)
-    expect(ties <= LAST_RULE, TIES)
+    expect(ties <= MOST_TIES, TIES)
     made = improved(shop, made, 0, each, passes, ties)
     put32(sequence, made)
     put64(span, makespan(shop, made))

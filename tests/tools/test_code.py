@@ -152,7 +152,7 @@ COUNTING = {
     "pfs_audit/src/bounds.rt": ["metered"],  # totals, which count nothing
     "pfs_audit/src/verdicts.rt": ["metered"],
     "pfs_base/src/permit.rt": ["spend"],  # in `pay`
-    "pfs_c/src/kept.rt": ["metered"] * 7,  # each call's own
+    "pfs_c/src/kept.rt": ["metered"] * 6,  # each call's own
     "pfs_desk/src/engines/value.rt": ["metered"],
     "pfs_iterate/src/places.rt": ["metered"],  # a search that counts nothing
     "pfs_search/src/search.rt": ["metered", "pay"],  # in `new`, which computes nothing, and in `start`

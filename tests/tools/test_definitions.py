@@ -1,11 +1,12 @@
 """What has to be believed is listed: the page that support/definitions.py prints has each definition that the contract
-of a public function cites, and each on which one of these rests."""
+of a public function cites, and each on which one of these rests; and so is what is proved."""
 import pathlib
 import re
 import subprocess
 
 import pytest
-from support.definitions import WORD, Definition, all_definitions, page, reached
+from support.definitions import (WORD, Definition, all_definitions, exports_of, functions_page, libraries, page,
+                                 reached)
 
 def test_the_page_of_what_is_reached_has_each(top: pathlib.Path) -> None:
     rows = re.findall(r"^\| (\S+) \| \*{0,2}`([^`]+)`\*{0,2} \| .*\|$", page(top / "crates"), re.MULTILINE)
@@ -37,25 +38,33 @@ def test_what_only_proofs_and_private_functions_use_is_private(top: pathlib.Path
 
 # The list of what is proved
 
-LIBRARIES = ["pfs_base", "pfs_layout", "pfs_order", "pfs_audit", "pfs_exact", "pfs_insert", "pfs_wave", "pfs_search",
-             "pfs_iterate", "pfs_words", "pfs_desk", "pfs_c"]
-
-
 def promised(crate: pathlib.Path) -> set[str]:
     """The laws of a crate, and the functions that it exports."""
-    sources = {path: path.read_text() for path in (crate / "src").rglob("*.rt")}
-    lists = re.findall(r"^pub use (?!pfs_)[\w:]*::(\{[^}]*\}|\w+);", sources[crate / "src" / "lib.rt"], re.MULTILINE)
-    exported = {name for names in lists for name in re.findall(r"\b[a-z]\w*", names)}
-    calls = {name for text in sources.values() for name in re.findall(r'^pub extern "C" fn (\w+)', text, re.MULTILINE)}
-    laws = re.findall(r"^pub fn (\w+)", sources.get(crate / "src" / "laws.rt", ""), re.MULTILINE)
-    return exported | calls | set(laws)
+    sources = [path.read_text() for path in (crate / "src").rglob("*.rt") if path.name != "laws.rt"]
+    defined = {name for text in sources for name in re.findall(r"^pub (?:extern \"C\" )?fn (\w+)", text, re.MULTILINE)}
+    calls = {name for text in sources for name in re.findall(r'^pub extern "C" fn (\w+)', text, re.MULTILINE)}
+    laws = crate / "src" / "laws.rt"
+    return defined & exports_of(crate)[1] | calls | set(
+        re.findall(r"^pub fn (\w+)", laws.read_text() if laws.exists() else "", re.MULTILINE))
 
 
-@pytest.mark.parametrize("crate", LIBRARIES)
-def test_each_promise_of_a_crate_is_in_the_list_of_proofs(crate: str, top: pathlib.Path) -> None:
-    section = (top / "docs" / "PROOFS.md").read_text().partition(f"\n### {crate}\n")[2].partition("\n##")[0]
-    listed = {word for code in re.findall("`([^`]+)`", section) for word in re.findall(r"\w+", code)}
-    assert promised(top / "crates" / crate) and promised(top / "crates" / crate) - listed == set()
+def test_the_page_of_functions_has_each_that_a_crate_exports_with_its_comment(top: pathlib.Path) -> None:
+    shown = functions_page(top / "crates")
+    for crate in libraries(top / "crates"):
+        rows = re.findall(r"^\| (\S+) \| `([\w:]+)` \| (.*) \|$",
+                          shown.partition(f"\n## {crate.name}\n")[2].partition("\n## ")[0], re.MULTILINE)
+        assert rows and promised(crate) - {name for _, name, _ in rows} == set()
+        assert [name for _, name, comment in rows if not comment.strip()] == []
+    assert "| device | `Source::failed` | Whether a read has failed. |" in shown
+    assert "| seq | `Seq::at` | The job at a place. |" in shown and "`FromRead::read`" not in shown
+
+
+def test_each_wrong_body_in_the_list_of_proofs_has_its_mutant_or_test(top: pathlib.Path) -> None:
+    section = (top / "docs" / "PROOFS.md").read_text().partition("\n## Wrong bodies that must stay rejected\n")[2]
+    rows = re.findall(r"^\| [^|]+ \| (`[^|]+`) \|$", section.partition("\n## ")[0], re.MULTILINE)
+    named = [name for row in rows for name in re.findall("`([^`]+)`", row)]
+    files = [top / name if name.startswith("tests/") else top / "crates" / f"{name}.edit" for name in named]
+    assert len(rows) > 20 and [path for path in files if not path.is_file()] == []
 
 
 # A crate over another one: what is reached of these

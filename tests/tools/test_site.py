@@ -74,6 +74,7 @@ def test_each_name_is_in_the_reference_and_found_by_a_search(site: pathlib.Path)
     assert names - Page(site / "reference.html").ids - Page(site / "reference_c.html").ids == set()
     assert [name for name in names if name[0] == "c" and f'"{name}"' not in index] == []
     assert ">best_place<" in (site / "docs" / "DEFINITIONS.html").read_text()
+    assert ">BlockReader::feed<" in (site / "docs" / "FUNCTIONS.html").read_text()
 
 
 # A header with each kind of comment, and the lines of its page that aren't empty.

@@ -1,6 +1,7 @@
 pub mod Buffer
 pub mod Device
 pub mod FlowShop
+pub mod Heads
 pub mod Joins
 pub mod Limits
 pub mod Lists

@@ -6,6 +6,7 @@ mod bench;
 mod buffered;
 mod device;
 mod from_read;
+pub mod heads;
 mod instance;
 pub mod laws;
 mod limits;

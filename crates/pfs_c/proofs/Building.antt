@@ -1,8 +1,16 @@
 -- What construction and local search find.
 use Rattle.std.proofs.Common.{◌≡◌, ℕ, ◌+◌, ◌<◌, ◌++◌, List, [], ◌∷◌, length, All, Contains, Some, None}
-use Rattle.std.proofs.Common.{get_or, insert, nat_eq, refl, ◌∙◌, arith}
+use Rattle.std.proofs.Common.{get_or, insert, nat_eq, nat_lt, refl, ap, zero, suc, fold, filter, not, inl, inr, ◌∙◌, arith}
 use Rattle.std.specs.List.{list_any}
 use Rattle.std.specs.List.Sorted.{IsPermutation}
+use Rattle.pfs_iterate.specs.Alone.{by_ties}
+use Rattle.pfs_iterate.specs.Iterated.{improved, moved as moved_by}
+use Rattle.pfs_iterate.specs.Laws.{FirstLaw}
+use Rattle.pfs_iterate.specs.declared.options.Options.{Options}
+use Rattle.pfs_iterate.specs.declared.options.TheConstants.{TIES_FIRST}
+use Rattle.std.proofs.lemmas.Bool.{cases_Bool}
+use Rattle.std.proofs.lemmas.List.Elements.{All-head, All-tail}
+use Rattle.std.proofs.lemmas.List.Sorted.{Contains-permutation}
 use Rattle.std.specs.Cmp.{nat_eq_equiv}
 use Rattle.std.proofs.lemmas.List.{get_or-append-add, length-append}
 use Rattle.std.proofs.lemmas.List.Elements.{Contains-append_right}
@@ -18,36 +26,12 @@ use Rattle.pfs_order.specs.Sequence.{IsSequence}
 use Rattle.pfs_order.proofs.Published.Sequences.{IsSequence-head, IsSequence-moved, IsSequence-permutation}
 use Rattle.pfs_order.proofs.Published.Sequences.{others-absent}
 use Rattle.pfs_insert.specs.Insertion.{best_place}
-use Rattle.pfs_search.specs.Greedy.{pass_over, passes_over}
+use Rattle.pfs_search.specs.Greedy.{moved, pass_over, passes_over}
 use Rattle.pfs_search.specs.Neh.{with_jobs}
 use Rattle.pfs_c.specs.declared.numbers.CallFault.TheVariants.{Job}
 use Rattle.pfs_search.proofs.Published.Moves.{passes_keep}
 use Rattle.pfs_c.specs.Building.{members_fault, IsConstructed, IsLocalSearch}
 use Rattle.pfs_c.proofs.Jobs.{absent_any, joined}
-
--- ---- jobs that are not in a sequence
-
--- absent jobs are inserted
-pub pass_absent : (shop : FlowShop) (size : ℕ) (more jobs : List ℕ) → IsSequence size (more ++ jobs)
-    → pass_over shop more jobs ≡ with_jobs shop jobs more
-pass_absent shop size [] jobs together = refl
-pass_absent shop size (job ∷ more) jobs together =
-    let absent : Contains jobs job → ⊥ =
-    λ among. IsSequence-head size job (more ++ jobs) together (Contains-append_right more jobs job among) in
-    let best : ℕ = best_place shop jobs job in
-    let rest = pass_absent shop size more (insert jobs best job)
-    (IsSequence-moved size job best more jobs together) in
-    rw (others-absent job jobs absent) rest
-
-pub with_jobs_all : (shop : FlowShop) (more jobs : List ℕ) → IsPermutation (more ++ jobs) (with_jobs shop jobs more)
-with_jobs_all shop [] jobs = IsPermutation-refl jobs
-with_jobs_all shop (job ∷ more) jobs =
-    let next : List ℕ = insert jobs (best_place shop jobs job) job in
-    IsPermutation-trans (job ∷ (more ++ jobs)) (more ++ next) (with_jobs shop next more)
-    (IsPermutation-trans (job ∷ (more ++ jobs)) (more ++ (job ∷ jobs)) (more ++ next)
-    (IsPermutation-sym (more ++ (job ∷ jobs)) (job ∷ (more ++ jobs)) (IsPermutation-middle more job jobs))
-    (IsPermutation-append_right more (job ∷ jobs) next (IsPermutation-insert jobs (best_place shop jobs job) job)))
-    (with_jobs_all shop more next)
 
 -- ---- jobs of a list that are in a sequence
 
@@ -67,24 +51,46 @@ members_out sequence list i within absent =
 
 -- ---- what the calls find
 
--- jobs that are inserted are in range
-pub more_small : (size : ℕ) (first more : List ℕ) → IsSequence size (first ++ more) → All (λ job. job < size) more
-more_small size first more together k d lt = rw (get_or-append-add first more k d) at
-    (together.in_range (length first + k) d (omega (arith, length-append {A = ℕ}, lt)))
+-- ---- a pass by the first of equally good places is one of `pfs_search`
 
-pub construct_is : (shop : FlowShop) (sequence more found : List ℕ) → IsSequence shop.jobs (sequence ++ more)
-    → found ≡ passes_over shop more 1 sequence
-    → IsConstructed shop sequence more found (makespan shop found)
-construct_is shop sequence more found together is =
-    let turned = joined shop.jobs sequence more together in
-    let same : found ≡ with_jobs shop sequence more = is ∙ pass_absent shop shop.jobs more sequence turned in
-    let all = with_jobs_all shop more sequence in
-    rw same (record {
-      found = refl;
-      long = omega (arith, length_permutation (more ++ sequence) _ all, length-append {A = ℕ});
-      distinct = IsSequence-permutation shop.jobs (more ++ sequence) _ all turned;
-      spanned = refl;
-    })
+moved_same : FirstLaw → (shop : FlowShop) (jobs : List ℕ) (job : ℕ) → Contains jobs job
+    → moved_by shop (by_ties TIES_FIRST) jobs job ≡ moved shop jobs job
+moved_same first shop jobs job among =
+    rw (list_any-from_Contains nat_eq_equiv job jobs among)
+    (ap (λ place. insert (filter (λ other. not (nat_eq other job)) jobs) place job)
+    (first shop (filter (λ other. not (nat_eq other job)) jobs) [] job).0)
+
+alone : (jobs : List ℕ) (job : ℕ) → Contains jobs job → All (λ other. Contains jobs other) (job ∷ [])
+alone jobs job among zero d lt = among
+alone jobs job among (suc k) d lt = absurd (omega arith)
+
+pass_same : FirstLaw → (shop : FlowShop) (list jobs : List ℕ) → IsSequence shop.jobs jobs
+    → All (λ job. Contains jobs job) list
+    → fold (moved_by shop (by_ties TIES_FIRST)) jobs list ≡ pass_over shop list jobs
+pass_same first shop [] jobs distinct among = refl
+pass_same first shop (job ∷ list) jobs distinct among =
+    let here = All-head (λ j. Contains jobs j) job list among in
+    let rest = All-tail (λ j. Contains jobs j) job list among in
+    let next = moved shop jobs job in
+    let same = (passes_keep shop jobs distinct (job ∷ []) 1 (alone jobs job here)).same in
+    rw (moved_same first shop jobs job here)
+    (pass_same first shop list next (IsSequence-permutation shop.jobs jobs next same distinct)
+    (λ k d lt. Contains-permutation jobs next (get_or list k d) same (rest k d lt)))
+
+once : (shop : FlowShop) (options : Options) (list jobs : List ℕ)
+    → improved shop options list 1 jobs ≡ fold (moved_by shop options) jobs list
+once shop options list jobs =
+    elim (cases_Bool (nat_lt (makespan shop (fold (moved_by shop options) jobs list)) (makespan shop jobs))) [
+      | inl shorter ↦ rw shorter refl
+      | inr not_shorter ↦ rw not_shorter refl
+    ]
+
+pub pass_is : FirstLaw → (shop : FlowShop) (list jobs : List ℕ) → IsSequence shop.jobs jobs
+    → All (λ job. Contains jobs job) list → improved shop (by_ties TIES_FIRST) list 1 jobs ≡ pass_over shop list jobs
+pass_is first shop list jobs distinct among =
+    once shop (by_ties TIES_FIRST) list jobs ∙ pass_same first shop list jobs distinct among
+
+-- ---- what the calls find
 
 pub search_is : (shop : FlowShop) (sequence list : List ℕ) (passes : ℕ) (found : List ℕ)
     → IsSequence shop.jobs sequence → All (λ job. Contains sequence job) list

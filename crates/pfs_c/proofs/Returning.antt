@@ -15,6 +15,12 @@ pub passed : (A : Type 0) (value : A) (found : Option CallFault) → Validates {
 passed A value None h = refl
 passed A value (Some why) h = absurd cc
 
+-- a check that fails has found this fault
+pub failed : (A : Type 0) (why : CallFault) (found : Option CallFault) (number : ℤ) → Validates {A = A} (Err why) found
+    → number ≡ fault_number why → number ≡ number_returned found
+failed A why None number h is = absurd cc
+failed A why (Some other) number h is = let same : why ≡ other = cc in is ∙ ap fault_number same
+
 -- an allocation fails after a check has found no fault
 pub allocated : (A B : Type 0) (value : B) (found : Option CallFault) → Validates {A = B} (Ok value) found
     → Rejects {A = A} (Err Memory) found

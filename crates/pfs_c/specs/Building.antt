@@ -1,5 +1,5 @@
 -- What construction and local search find, and which of their arguments are invalid.
-use Rattle.std.specs.Prelude.{◌≡◌, ℕ, ◌+◌, ◌≤◌, List, [], ◌∷◌, ◌++◌, length, nat_eq, Option}
+use Rattle.std.specs.Prelude.{◌≡◌, ℕ, ◌+◌, ◌-◌, ◌≤◌, List, [], ◌∷◌, ◌++◌, length, take, nat_eq, nat_le, Option}
 use Rattle.std.specs.List.{list_all, list_any}
 use Rattle.pfs_base.specs.FlowShop.{FlowShop}
 use Rattle.pfs_base.specs.Lists.{first_some}
@@ -10,7 +10,7 @@ use Rattle.pfs_search.specs.Neh.{with_jobs}
 use Rattle.pfs_search.specs.Ranking.{ranking}
 use Rattle.pfs_search.specs.Solution.{neh_cells, IsNeh}
 use Rattle.pfs_c.specs.declared.numbers.CallFault.{CallFault}
-use Rattle.pfs_c.specs.declared.numbers.CallFault.TheVariants.{Job}
+use Rattle.pfs_c.specs.declared.numbers.CallFault.TheVariants.{Job, Length}
 use Rattle.pfs_c.specs.Validation.{unless, length_fault, jobs_fault}
 use Rattle.pfs_c.specs.Searching.{passes_fault}
 
@@ -41,6 +41,14 @@ pub record IsLocalSearch (shop : FlowShop) (sequence list : List ℕ) (passes : 
 abbrev pub construct_fault : FlowShop → List ℕ → List ℕ → ℕ → Option CallFault
 construct_fault shop sequence more room = first_some (length_fault room (length sequence + length more)
     ∷ jobs_fault shop.jobs sequence ∷ jobs_fault shop.jobs (sequence ++ more) ∷ [])
+
+-- the sequence in the front of an order, which has room for it and for more jobs
+abbrev pub in_front : List ℕ → List ℕ → List ℕ
+in_front more order = take (length order - length more) order
+
+abbrev pub add_fault : FlowShop → List ℕ → List ℕ → Option CallFault
+add_fault shop more order = first_some (unless (nat_le (length more) (length order)) Length
+    ∷ jobs_fault shop.jobs (in_front more order) ∷ jobs_fault shop.jobs (in_front more order ++ more) ∷ [])
 
 -- a job of a list is not in the sequence
 abbrev pub members_fault : List ℕ → List ℕ → Option CallFault

@@ -9,10 +9,21 @@ ghost use Rattle.pfs_c.specs.Private.Outcomes.{Validates};
 use crate::given::{validate, validate_jobs};
 use crate::handle::Prepared;
 use crate::kept::Kept;
-use crate::numbers::{CallFault, PFS_OK, number_of};
+use crate::numbers::{CallFault, PFS_OK};
 use pfs_base::{MOST_PASSES, MOST_ROUNDS};
-use pfs_iterate::{Options, TIES_IDLE, count_movable};
+use pfs_iterate::{MOST_TIES, Makespans, Options, count_movable};
 use std::alloc::Global;
+
+/// The struct `pfs_iterate_options` of C.
+#[repr(C)]
+pub struct IterateOptions<'a> {
+    /// Which rounds are made.
+    pub rounds: Options,
+    /// The chances of longer orders.
+    pub accept: &'a [u32],
+    /// For each job 0, or another number if it keeps its order.
+    pub stay: &'a [u8],
+}
 
 /// Makes the rounds `first` to `first + count - 1`, counted from 0, of an iterated greedy search of a seed that also
 /// accepts longer orders (Ruiz and Stützle 2007) and moves the jobs that are left after a removal (Dubois-Lacoste,
@@ -20,21 +31,21 @@ use std::alloc::Global;
 /// overwritten with the order after these rounds and with the shortest one so far, `current_span` and `best_span` with
 /// their makespans.
 #[unsafe(no_mangle)]
+#[tactic(auto, using(crate::proofs::Returning::failed, crate::proofs::Returning::passed))]
 pub extern "C" fn pfs_iterate(
     alloc: Global,
     instance: &mut Prepared,
-    options: &Options,
-    accept: &[u32],
-    stay: &[u8],
+    options: &IterateOptions,
     current: &mut [u32],
     current_span: &mut u64,
     best: &mut [u32],
     best_span: &mut u64,
 ) -> i32
     ensures number { result ≡ number_returned
-        (on_shop instance.old.shop (λ shop. iterate_fault shop stay.now current.old best.old options.now)) }
-    ensures done { result ≡ PFS_OK → IfSome instance.old.shop (λ shop. IsIterated shop options.now accept.now stay.now
-        current.old best.old current.new current_span.new best.new best_span.new) }
+        (on_shop instance.old.shop (λ shop. iterate_fault shop current.old best.old options.now)) }
+    ensures done { result ≡ PFS_OK → IfSome instance.old.shop (λ shop. IsIterated shop options.now.rounds
+        options.now.accept.now options.now.stay.now current.old best.old current.new current_span.new best.new
+        best_span.new) }
     ensures shop { instance.new.shop ≡ instance.old.shop }
     ensures kept_current { result ≢ PFS_OK → current.new ≡ current.old }
     ensures kept_current_span { result ≢ PFS_OK → current_span.new ≡ current_span.old }
@@ -44,57 +55,47 @@ pub extern "C" fn pfs_iterate(
     let Some(mut kept) = instance.take(alloc) else {
         return CallFault::NotPrepared.number();
     };
-    let done = iterate_in(
-        &mut kept,
-        options,
-        accept,
-        stay,
-        current,
-        current_span,
-        best,
-        best_span,
-    );
+    let done = iterate_in(&mut kept, options, current, best);
     instance.put(kept);
-    number_of(done)
+    match done {
+        Ok(spans) => {
+            *current_span = spans.current;
+            *best_span = spans.best;
+            PFS_OK
+        }
+        Err(why) => why.number(),
+    }
 }
 
 fn iterate_in(
     kept: &mut Kept,
-    options: &Options,
-    accept: &[u32],
-    stay: &[u8],
+    options: &IterateOptions,
     current: &mut [u32],
-    current_span: &mut u64,
     best: &mut [u32],
-    best_span: &mut u64,
-) -> Result<(), CallFault>
-    ensures validated { Validates result (iterate_fault kept.old stay.now current.old best.old options.now) }
-    ensures done { IfOk result (λ _. IsIterated kept.old options.now accept.now stay.now current.old best.old
-        current.new current_span.new best.new best_span.new) }
+) -> Result<Makespans, CallFault>
+    ensures validated { Validates result (iterate_fault kept.old current.old best.old options.now) }
+    ensures done { IfOk result (λ spans. IsIterated kept.old options.now.rounds options.now.accept.now
+        options.now.stay.now current.old best.old current.new spans.current best.new spans.best) }
     ensures shop { kept.new ≡ kept.old }
     ensures kept_current { IfErr result (λ _. current.new ≡ current.old) }
-    ensures kept_current_span { IfErr result (λ _. current_span.new ≡ current_span.old) }
     ensures kept_best { IfErr result (λ _. best.new ≡ best.old) }
-    ensures kept_best_span { IfErr result (λ _. best_span.new ≡ best_span.old) }
 {
     let jobs = kept.jobs();
+    let rounds = &options.rounds;
     validate(current.len() == jobs, CallFault::Length)?;
     validate(best.len() == jobs, CallFault::Length)?;
     validate_jobs(jobs, current)?;
     validate_jobs(jobs, best)?;
-    validate(1 <= options.take, CallFault::Take)?;
-    validate(options.held <= jobs, CallFault::Take)?;
-    let movable = count_movable(current, options.held, stay);
-    validate(options.take <= movable, CallFault::Take)?;
-    let same = best[..options.held] == current[..options.held];
+    validate(1 <= rounds.take, CallFault::Take)?;
+    validate(rounds.held <= jobs, CallFault::Take)?;
+    let movable = count_movable(current, rounds.held, options.stay);
+    validate(rounds.take <= movable, CallFault::Take)?;
+    let same = best[..rounds.held] == current[..rounds.held];
     validate(same, CallFault::Held)?;
-    validate(options.partial <= MOST_PASSES, CallFault::Passes)?;
-    validate(options.passes <= MOST_PASSES, CallFault::Passes)?;
-    validate(options.ties <= TIES_IDLE, CallFault::Ties)?;
-    let last = options.first as u64 + options.count as u64;
+    validate(rounds.partial <= MOST_PASSES, CallFault::Passes)?;
+    validate(rounds.passes <= MOST_PASSES, CallFault::Passes)?;
+    validate(rounds.ties <= MOST_TIES, CallFault::Ties)?;
+    let last = rounds.first as u64 + rounds.count as u64;
     validate(last <= MOST_ROUNDS as u64, CallFault::Rounds)?;
-    let spans = kept.iterate(options, accept, stay, current, best);
-    *current_span = spans.current;
-    *best_span = spans.best;
-    Ok(())
+    Ok(kept.iterate(options, current, best))
 }

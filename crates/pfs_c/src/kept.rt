@@ -11,7 +11,7 @@ ghost use Rattle.pfs_iterate.specs.Iterated.{movable};
 ghost use Rattle.pfs_iterate.specs.Rounds.{CanIterate, IsIterated};
 ghost use Rattle.pfs_search.specs.Search.{IsSearchOf};
 ghost use Rattle.pfs_search.specs.Solution.{IsImproved, IsNeh};
-ghost use Rattle.pfs_search.specs.Greedy.{pass_over, passes_over};
+ghost use Rattle.pfs_search.specs.Greedy.{passes_over};
 ghost use Rattle.pfs_c.specs.Inserting.{AreInsertions, insertions_fault};
 ghost use Rattle.pfs_c.specs.Iterating.{or_ties_fault};
 ghost use Rattle.pfs_c.specs.Many.{AreMakespans, makespans_fault};
@@ -22,15 +22,23 @@ ghost use Rattle.pfs_c.specs.Private.Outcomes.{Validates};
 use crate::given::{copy_sequence, validate, validate_insertion, validate_jobs};
 use crate::many::{fill_makespans, validate_many};
 use crate::numbers::CallFault;
+use crate::iterating::IterateOptions;
 use crate::rows::span_of;
 use crate::searching::RoundsOptions;
 use pfs_base::{Bench, Instance, MOST_JOBS, MOST_PASSES, MOST_ROUNDS};
 use pfs_batch::Batch;
-use pfs_iterate::{Iterated, Makespans, Options, TIES_IDLE};
-use pfs_order::Seq;
+use pfs_insert::Placed;
+use pfs_iterate::{Iterated, MOST_TIES, Makespans, TIES_FIRST};
 use pfs_search::{Rounds, Search};
 use std::alloc::Global;
 use std::marker::Model;
+
+/// The makespan of the order that a search has found, and the number of cells that it takes.
+#[derive(Clone, Copy)]
+pub(crate) struct Searched {
+    pub(crate) span: u64,
+    pub(crate) cells: u64,
+}
 
 /// A prepared instance.
 #[derive(Drop)]
@@ -39,7 +47,6 @@ pub(crate) struct Kept {
     search: Search,
     // Whether the makespan that the search keeps is that of its order.
     is_span_known: bool,
-    sequence: Seq,
     iterated: Iterated,
     // None if a time is above 65,535.
     batch: Option<Batch>,
@@ -61,7 +68,6 @@ impl Model for Kept {
       within : IsWithin limits a.instance.shop;
       search : IsSearchOf a.instance.shop a.search;
       span : IsTrue a.is_span_known → a.search.kept.span ≡ makespan a.instance.shop a.search.kept.order;
-      size : a.sequence.size ≡ a.instance.shop.jobs;
       iterated : IsIteratedFor a.instance.shop a.iterated;
       batch : IfSome a.batch (λ batch. batch ≡ a.instance.shop);
     } };
@@ -76,9 +82,6 @@ impl Kept {
         let Ok(search) = Search::new(alloc, &instance) else {
             return Err(CallFault::Memory);
         };
-        let Ok(sequence) = Seq::new(alloc, instance.jobs()) else {
-            return Err(CallFault::Memory);
-        };
         let Ok(iterated) = Iterated::new(alloc, &instance) else {
             return Err(CallFault::Memory);
         };
@@ -89,7 +92,6 @@ impl Kept {
             instance,
             search,
             is_span_known: false,
-            sequence,
             iterated,
             batch,
         })
@@ -111,36 +113,34 @@ impl Kept {
         self.instance.jobs()
     }
 
-    /// Writes NEH's order and the number of cells, and returns the order's makespan.
-    pub(crate) fn neh(&mut self, alloc: Global, order: &mut [u32], cells: &mut u64) -> u64
+    /// Writes NEH's order.
+    pub(crate) fn neh(&mut self, alloc: Global, order: &mut [u32]) -> Searched
         requires { length order.old ≡ self.old.jobs }
-        ensures found { IsNeh self.old order.new result cells.new }
+        ensures found { IsNeh self.old order.new result.span result.cells }
         ensures shop { self.new ≡ self.old }
     {
         self.search.cells = 0;
         let bench = self.search.neh(alloc, self.instance.metered());
-        *cells = bench.cells();
         self.is_span_known = true;
         copy_sequence(self.search.kept.order.seq(), order);
-        bench.reveal(self.search.kept.span)
+        Searched {
+            span: bench.reveal(self.search.kept.span),
+            cells: bench.cells(),
+        }
     }
 
-    /// Makes rounds from an order, which it overwrites. Writes the makespan of the result and the number of cells.
+    /// Makes rounds from an order, which it overwrites.
     pub(crate) fn rounds(
         &mut self,
         alloc: Global,
         options: &RoundsOptions,
         order: &mut [u32],
-        span: &mut u64,
-        cells: &mut u64,
-    ) -> Result<(), CallFault>
+    ) -> Result<Searched, CallFault>
         ensures validated { Validates result (rounds_fault self.old order.old options.now) }
-        ensures found { IfOk result (λ _. IsImproved self.old order.old options.now.first options.now.count
-            options.now.take options.now.passes options.now.seed order.new span.new cells.new) }
+        ensures found { IfOk result (λ found. IsImproved self.old order.old options.now.first options.now.count
+            options.now.take options.now.passes options.now.seed order.new found.span found.cells) }
         ensures shop { self.new ≡ self.old }
-        ensures kept_order { IfErr result (λ _. order.new ≡ order.old) }
-        ensures kept_span { IfErr result (λ _. span.new ≡ span.old) }
-        ensures kept_cells { IfErr result (λ _. cells.new ≡ cells.old) }
+        ensures kept { IfErr result (λ _. order.new ≡ order.old) }
     {
         let jobs = self.instance.jobs();
         validate(order.len() == jobs, CallFault::Length)?;
@@ -164,40 +164,40 @@ impl Kept {
         let bench = self
             .search
             .rounds(alloc, self.instance.metered(), options.first, rounds);
-        *cells = bench.cells();
         self.is_span_known = true;
         copy_sequence(self.search.kept.order.seq(), order);
-        *span = bench.reveal(self.search.kept.span);
-        Ok(())
+        Ok(Searched {
+            span: bench.reveal(self.search.kept.span),
+            cells: bench.cells(),
+        })
     }
 
     /// Makes rounds that also accept longer orders from two orders, which it overwrites, and returns their makespans.
     pub(crate) fn iterate(
         &mut self,
-        options: &Options,
-        accept: &[u32],
-        stay: &[u8],
+        options: &IterateOptions,
         current: &mut [u32],
         best: &mut [u32],
     ) -> Makespans
-        requires options { CanIterate self.old options.now }
+        requires options { CanIterate self.old options.now.rounds }
         requires current_all { length current.old ≡ self.old.jobs }
         requires current { IsSequence self.old.jobs current.old }
         requires best_all { length best.old ≡ self.old.jobs }
         requires best { IsSequence self.old.jobs best.old }
-        requires front { take options.now.held best.old ≡ take options.now.held current.old }
-        requires free { options.now.take ≤ length (movable options.now.held stay.now current.old) }
-        ensures done { IsIterated self.old options.now accept.now stay.now current.old best.old
-            current.new result.current best.new result.best }
+        requires front { take options.now.rounds.held best.old ≡ take options.now.rounds.held current.old }
+        requires free { options.now.rounds.take
+            ≤ length (movable options.now.rounds.held options.now.stay.now current.old) }
+        ensures done { IsIterated self.old options.now.rounds options.now.accept.now options.now.stay.now
+            current.old best.old current.new result.current best.new result.best }
         ensures shop { self.new ≡ self.old }
     {
         self.is_span_known = false;
         self.iterated.rounds(
             &self.instance,
             &mut self.search,
-            options,
-            accept,
-            stay,
+            &options.rounds,
+            options.accept,
+            options.stay,
             current,
             best,
         )
@@ -215,56 +215,43 @@ impl Kept {
         }
     }
 
-    /// Writes the best place for a job in a sequence, and the makespan with the job there.
-    pub(crate) fn insert(
-        &mut self,
-        sequence: &[u32],
-        job: u32,
-        place: &mut usize,
-        span: &mut u64,
-    ) -> Result<(), CallFault>
+    /// Finds the best place for a job in a sequence, and the makespan with the job there.
+    pub(crate) fn insert(&mut self, sequence: &[u32], job: u32) -> Result<Placed<u64>, CallFault>
         ensures validated { Validates result (insertion_fault self.old sequence.now job) }
-        ensures best { IfOk result (λ _. IsBestPlace self.old sequence.now job place.new span.new) }
+        ensures best { IfOk result (λ best. IsBestPlace self.old sequence.now job best.place best.span) }
         ensures shop { self.new ≡ self.old }
-        ensures kept_place { IfErr result (λ _. place.new ≡ place.old) }
-        ensures kept_span { IfErr result (λ _. span.new ≡ span.old) }
     {
         validate_insertion(self.instance.jobs(), sequence, job)?;
         let mut bench = self.instance.metered();
         let best = self
             .search
             .best(&mut bench, sequence, job as usize, &mut []);
-        *place = best.place;
-        *span = bench.reveal(best.span);
-        Ok(())
+        Ok(Placed {
+            place: best.place,
+            span: bench.reveal(best.span),
+        })
     }
 
-    /// Writes the best place for a job in a sequence by a rule for equally good places, and the makespan with the job
+    /// Finds the best place for a job in a sequence by a rule for equally good places, and the makespan with the job
     /// there.
     pub(crate) fn choose(
         &mut self,
         ties: u32,
         sequence: &[u32],
         job: u32,
-        place: &mut usize,
-        span: &mut u64,
-    ) -> Result<(), CallFault>
+    ) -> Result<Placed<u64>, CallFault>
         ensures validated { Validates result (or_ties_fault (insertion_fault self.old sequence.now job) ties) }
-        ensures chosen { IfOk result (λ _. IsChosen self.old ties sequence.now job place.new span.new) }
+        ensures chosen { IfOk result (λ best. IsChosen self.old ties sequence.now job best.place best.span) }
         ensures shop { self.new ≡ self.old }
-        ensures kept_place { IfErr result (λ _. place.new ≡ place.old) }
-        ensures kept_span { IfErr result (λ _. span.new ≡ span.old) }
     {
         validate_insertion(self.instance.jobs(), sequence, job)?;
-        validate(ties <= TIES_IDLE, CallFault::Ties)?;
+        validate(ties <= MOST_TIES, CallFault::Ties)?;
         self.is_span_known = false;
         let job = job as usize;
-        let found = self
+        let (instance, search) = (&self.instance, &mut self.search);
+        Ok(self
             .iterated
-            .choose(&self.instance, &mut self.search, ties, sequence, job);
-        *place = found.place;
-        *span = found.span;
-        Ok(())
+            .choose(instance, search, ties, sequence, job))
     }
 
     /// Inserts more jobs into the first `count` of `order`, and makes passes over a list of jobs until one makes the
@@ -338,72 +325,21 @@ impl Kept {
         Ok(())
     }
 
-    /// Makes passes over a list of jobs from the first `count` of `order`, which it overwrites. Returns the makespan.
-    pub(crate) fn visit(
-        &mut self,
-        list: &[u32],
-        passes: u32,
-        order: &mut [u32],
-        count: usize,
-    ) -> u64
-        requires count { count ≤ length order.old }
-        requires sequence { IsSequence self.old.jobs (take count order.old) }
-        requires small { All (λ job. job < self.old.jobs) list.now }
-        requires long { length order.old ≡ length (passes_over self.old list.now passes (take count order.old)) }
-        ensures order { order.new ≡ passes_over self.old list.now passes (take count order.old) }
+    /// Makes passes over a list of jobs of a sequence, which it overwrites. Returns the makespan.
+    pub(crate) fn visit(&mut self, list: &[u32], passes: u32, order: &mut [u32]) -> u64
+        requires sequence { IsSequence self.old.jobs order.old }
+        requires list { IsSequence self.old.jobs list.now }
+        requires members { All (λ job. Contains order.old job) list.now }
+        ensures order { order.new ≡ passes_over self.old list.now passes order.old }
         ensures span { result ≡ makespan self.old order.new }
         ensures shop { self.new ≡ self.old }
     {
-        let seq = &mut self.sequence;
-        seq.set(&order[..count]);
-        make_visits(&self.instance, &mut self.search, seq, list, passes);
-        // Called for its contract, which says that the jobs of a sequence are distinct.
-        let _size = seq.size();
-        copy_sequence(seq, order);
-        span_of(&self.instance, order)
-    }
-}
-
-// Makes passes over a list of jobs.
-fn make_visits(instance: &Instance, search: &mut Search, seq: &mut Seq, list: &[u32], passes: u32)
-    requires search { IsSearchOf instance.now.shop search.old }
-    requires size { seq.old.size ≡ instance.now.shop.jobs }
-    requires small { All (λ job. job < instance.now.shop.jobs) list.now }
-    ensures jobs { seq.new ≡ record seq.old { jobs = passes_over instance.now.shop list.now passes seq.old.jobs } }
-    ensures search { IsSearchOf instance.now.shop search.new }
-    ensures kept { search.new.kept ≡ search.old.kept }
-{
-    for _pass in 0..passes {
-        visit_once(instance, search, seq, list);
-    }
-}
-
-// One pass: each job leaves its place, if it has one, for its first best one.
-fn visit_once(instance: &Instance, search: &mut Search, seq: &mut Seq, list: &[u32])
-    requires search { IsSearchOf instance.now.shop search.old }
-    requires size { seq.old.size ≡ instance.now.shop.jobs }
-    requires small { All (λ job. job < instance.now.shop.jobs) list.now }
-    ensures jobs { seq.new ≡ record seq.old { jobs = pass_over instance.now.shop list.now seq.old.jobs } }
-    ensures search { IsSearchOf instance.now.shop search.new }
-    ensures kept { search.new.kept ≡ search.old.kept }
-{
-    for job in list {
-        let job = *job as usize;
-        take_out(seq, job);
-        let best = search.best(&mut instance.metered(), seq.as_slice(), job, &mut []);
-        seq.insert_at(best.place, job);
-    }
-}
-
-// Removes a job from a sequence that may contain it.
-fn take_out(seq: &mut Seq, job: usize)
-    ensures jobs { seq.new ≡ record seq.old { jobs = filter (λ other. not (nat_eq other job)) seq.old.jobs } }
-    ensures absent { Contains seq.new.jobs job → ⊥ }
-{
-    // Called for its contract, which says that the jobs of a sequence are distinct.
-    let _size = seq.size();
-    if seq.has(job) {
-        let place = seq.place_of(job);
-        seq.remove_at(place);
+        pfs_iterate::laws::first();
+        let count = order.len();
+        let mut span = self.build(TIES_FIRST, &[], list, 0, order, count);
+        for _pass in 0..passes {
+            span = self.build(TIES_FIRST, &[], list, 1, order, count);
+        }
+        span
     }
 }

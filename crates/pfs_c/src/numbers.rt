@@ -1,6 +1,8 @@
 //! The numbers that the functions return.
-ghost use Rattle.std.specs.Prelude.{◌≡◌, ◌≢◌, IsOk, IfErr};
+ghost use Rattle.std.specs.Prelude.{◌≡◌, ◌≢◌, IsOk, IfOk, IfErr};
 ghost use Rattle.pfs_c.specs.Numbers.{fault_number};
+
+use pfs_insert::Placed;
 
 /// The call succeeded.
 pub const PFS_OK: i32 = 0;
@@ -96,6 +98,44 @@ pub(crate) fn number_of(done: Result<(), CallFault>) -> i32
 {
     match done {
         Ok(()) => PFS_OK,
+        Err(why) => why.number(),
+    }
+}
+
+/// Writes the makespan of a result, if it has one, and returns the number that C receives.
+pub(crate) fn number_and_span(done: Result<u64, CallFault>, span: &mut u64) -> i32
+    ensures ok { IsOk done → result ≡ PFS_OK }
+    ensures err { IfErr done (λ why. (result ≡ fault_number why) × (result ≢ PFS_OK)) }
+    ensures span { IfOk done (λ found. span.new ≡ found) }
+    ensures kept { IfErr done (λ _. span.new ≡ span.old) }
+{
+    match done {
+        Ok(found) => {
+            *span = found;
+            PFS_OK
+        }
+        Err(why) => why.number(),
+    }
+}
+
+/// The same of a place and the makespan with a job there.
+pub(crate) fn number_and_place(
+    done: Result<Placed<u64>, CallFault>,
+    place: &mut usize,
+    span: &mut u64,
+) -> i32
+    ensures ok { IsOk done → result ≡ PFS_OK }
+    ensures err { IfErr done (λ why. (result ≡ fault_number why) × (result ≢ PFS_OK)) }
+    ensures place { IfOk done (λ best. place.new ≡ best.place) }
+    ensures span { IfOk done (λ best. span.new ≡ best.span) }
+    ensures kept_place { IfErr done (λ _. place.new ≡ place.old) }
+    ensures kept_span { IfErr done (λ _. span.new ≡ span.old) }
+{
+    match done {
+        Ok(best) => {
+            *place = best.place;
+            number_and_span(Ok(best.span), span)
+        }
         Err(why) => why.number(),
     }
 }

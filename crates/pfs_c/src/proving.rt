@@ -9,7 +9,7 @@ use crate::given::{copy_sequence, order_of, validate, validate_jobs};
 use crate::handle::Prepared;
 use crate::numbers::{CallFault, PFS_OK};
 use pfs_base::Instance;
-use pfs_exact::{MOST_PROVED_JOBS, MOST_PROVED_MACHINES, prove_order};
+use pfs_exact::{MOST_PROVED_JOBS, MOST_PROVED_MACHINES, Proved, prove_order};
 use std::alloc::Global;
 
 /// Searches for a shorter order of all jobs than the given one, and for a proof that there is none, by at most `nodes`
@@ -38,10 +38,15 @@ pub extern "C" fn pfs_prove(
     let Some(kept) = instance.take(alloc) else {
         return CallFault::NotPrepared.number();
     };
-    let done = prove_in(alloc, kept.instance(), order, nodes, span, least, left);
+    let done = prove_in(alloc, kept.instance(), order, nodes);
     instance.put(kept);
     match done {
-        Ok(()) => PFS_OK,
+        Ok(proved) => {
+            *span = proved.makespan;
+            *least = proved.bound;
+            *left = proved.left;
+            PFS_OK
+        }
         Err(why) => why.number(),
     }
 }
@@ -51,17 +56,11 @@ fn prove_in(
     instance: &Instance,
     order: &mut [u32],
     nodes: u64,
-    span: &mut u64,
-    least: &mut u64,
-    left: &mut u64,
-) -> Result<(), CallFault>
+) -> Result<Proved, CallFault>
     ensures rejected { Rejects result (prove_fault instance.now.shop order.old) }
-    ensures done { IfOk result
-        (λ _. IsProved instance.now.shop order.old nodes order.new span.new least.new left.new) }
-    ensures kept_order { IfErr result (λ _. order.new ≡ order.old) }
-    ensures kept_span { IfErr result (λ _. span.new ≡ span.old) }
-    ensures kept_least { IfErr result (λ _. least.new ≡ least.old) }
-    ensures kept_left { IfErr result (λ _. left.new ≡ left.old) }
+    ensures done { IfOk result (λ proved. IsProved instance.now.shop order.old nodes order.new
+        proved.makespan proved.bound proved.left) }
+    ensures kept { IfErr result (λ _. order.new ≡ order.old) }
 {
     let jobs = instance.jobs();
     validate(order.len() == jobs, CallFault::Length)?;
@@ -73,8 +72,5 @@ fn prove_in(
         return Err(CallFault::Memory);
     };
     copy_sequence(best.seq(), order);
-    *span = proved.makespan;
-    *least = proved.bound;
-    *left = proved.left;
-    Ok(())
+    Ok(proved)
 }

@@ -12,8 +12,9 @@ ghost use Rattle.pfs_c.specs.Private.Outcomes.{Validates};
 use crate::given::{validate, validate_jobs, validate_more};
 use crate::handle::Prepared;
 use crate::kept::Kept;
-use crate::numbers::{CallFault, PFS_OK, number_of};
+use crate::numbers::{CallFault, PFS_OK, number_and_span, number_of};
 use pfs_base::{MOST_JOBS, MOST_PASSES};
+use pfs_iterate::TIES_FIRST;
 use std::alloc::Global;
 
 /// Computes the order of NEH (Nawaz, Enscore and Ham 1983) by heads and tails (Taillard 1990), its makespan, and the
@@ -39,7 +40,9 @@ pub extern "C" fn pfs_neh(
     };
     let valid = validate(order.len() == kept.jobs(), CallFault::Length);
     if valid.is_ok() {
-        *span = kept.neh(alloc, order, cells);
+        let found = kept.neh(alloc, order);
+        *span = found.span;
+        *cells = found.cells;
     }
     instance.put(kept);
     number_of(valid)
@@ -65,6 +68,7 @@ pub struct RoundsOptions {
 /// 2007) of a seed, from a given order of all jobs. `order` is overwritten with the order after these rounds, `span`
 /// with its makespan, and `cells` with the number of table cells that these rounds take.
 #[unsafe(no_mangle)]
+#[tactic(auto, using(crate::proofs::Returning::failed, crate::proofs::Returning::passed))]
 pub extern "C" fn pfs_rounds(
     alloc: Global,
     instance: &mut Prepared,
@@ -85,9 +89,16 @@ pub extern "C" fn pfs_rounds(
     let Some(mut kept) = instance.take(alloc) else {
         return CallFault::NotPrepared.number();
     };
-    let done = kept.rounds(alloc, options, order, span, cells);
+    let done = kept.rounds(alloc, options, order);
     instance.put(kept);
-    number_of(done)
+    match done {
+        Ok(found) => {
+            *span = found.span;
+            *cells = found.cells;
+            PFS_OK
+        }
+        Err(why) => why.number(),
+    }
 }
 
 /// Inserts jobs into a sequence one after the other, each at its first best place, as NEH does with its ranking. The
@@ -112,9 +123,9 @@ pub extern "C" fn pfs_construct(
     let Some(mut kept) = instance.take(alloc) else {
         return CallFault::NotPrepared.number();
     };
-    let done = construct_in(&mut kept, sequence, more, order, span);
+    let done = construct_in(&mut kept, sequence, more, order);
     instance.put(kept);
-    number_of(done)
+    number_and_span(done, span)
 }
 
 fn construct_in(
@@ -122,13 +133,11 @@ fn construct_in(
     sequence: &[u32],
     more: &[u32],
     order: &mut [u32],
-    span: &mut u64,
-) -> Result<(), CallFault>
+) -> Result<u64, CallFault>
     ensures validated { Validates result (construct_fault kept.old sequence.now more.now (length order.old)) }
-    ensures done { IfOk result (λ _. IsConstructed kept.old sequence.now more.now order.new span.new) }
+    ensures done { IfOk result (λ span. IsConstructed kept.old sequence.now more.now order.new span) }
     ensures shop { kept.new ≡ kept.old }
     ensures kept_order { IfErr result (λ _. order.new ≡ order.old) }
-    ensures kept_span { IfErr result (λ _. span.new ≡ span.old) }
 {
     let jobs = kept.jobs();
     let all = sequence.len() + more.len();
@@ -136,8 +145,8 @@ fn construct_in(
     validate_jobs(jobs, sequence)?;
     validate_more(jobs, sequence, more)?;
     order[..sequence.len()].copy_from_slice(sequence);
-    *span = kept.visit(more, 1, order, sequence.len());
-    Ok(())
+    pfs_iterate::laws::first();
+    Ok(kept.build(TIES_FIRST, more, &[], 0, order, sequence.len()))
 }
 
 /// Makes passes over a list of jobs of a sequence: in the order of the list, each job leaves its place for its first
@@ -162,9 +171,9 @@ pub extern "C" fn pfs_local_search(
     let Some(mut kept) = instance.take(alloc) else {
         return CallFault::NotPrepared.number();
     };
-    let done = local_search_in(&mut kept, list, passes, sequence, span);
+    let done = local_search_in(&mut kept, list, passes, sequence);
     instance.put(kept);
-    number_of(done)
+    number_and_span(done, span)
 }
 
 fn local_search_in(
@@ -172,22 +181,18 @@ fn local_search_in(
     list: &[u32],
     passes: u32,
     sequence: &mut [u32],
-    span: &mut u64,
-) -> Result<(), CallFault>
+) -> Result<u64, CallFault>
     ensures validated { Validates result (local_search_fault kept.old sequence.old list.now passes) }
-    ensures done { IfOk result (λ _. IsLocalSearch kept.old sequence.old list.now passes sequence.new span.new) }
+    ensures done { IfOk result (λ span. IsLocalSearch kept.old sequence.old list.now passes sequence.new span) }
     ensures shop { kept.new ≡ kept.old }
     ensures kept_sequence { IfErr result (λ _. sequence.new ≡ sequence.old) }
-    ensures kept_span { IfErr result (λ _. span.new ≡ span.old) }
 {
     let jobs = kept.jobs();
     validate_jobs(jobs, sequence)?;
     validate_jobs(jobs, list)?;
     validate_members(sequence, list)?;
     validate(passes <= MOST_PASSES, CallFault::Passes)?;
-    let count = sequence.len();
-    *span = kept.visit(list, passes, sequence, count);
-    Ok(())
+    Ok(kept.visit(list, passes, sequence))
 }
 
 /// Validates that each job of a list is in a sequence: `Job` if one is not.

@@ -15,7 +15,7 @@ ghost use Rattle.pfs_c.specs.Private.Outcomes.{Rejects, Validates};
 
 use crate::given::{order_of, validate, validate_jobs, validate_product};
 use crate::handle::Prepared;
-use crate::numbers::{CallFault, PFS_OK, number_of};
+use crate::numbers::{CallFault, PFS_OK, number_and_place, number_of};
 use crate::rows::{fill_rows, span_of};
 use pfs_audit::{TimeTable, bound, table};
 use pfs_base::Instance;
@@ -108,9 +108,9 @@ pub extern "C" fn pfs_insert(
     let Some(mut kept) = instance.take(alloc) else {
         return CallFault::NotPrepared.number();
     };
-    let done = kept.insert(sequence, job, place, span);
+    let done = kept.insert(sequence, job);
     instance.put(kept);
-    number_of(done)
+    number_and_place(done, place, span)
 }
 
 /// Computes the makespan with a job at each place of a sequence of others. `makespans[place]` is that with the job

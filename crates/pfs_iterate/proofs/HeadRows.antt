@@ -1,12 +1,16 @@
 -- Rows of heads, with one more row or with fewer.
-use Rattle.std.proofs.Common.{◌≡◌, ℕ, suc, ◌+◌, ◌*◌, ◌<◌, ◌≤◌, List, [], ◌∷◌, ◌++◌, length, get_or, take}
+use Rattle.std.proofs.Common.{◌≡◌, ℕ, suc, ◌+◌, ◌*◌, ◌<◌, ◌≤◌, max, List, [], ◌∷◌, ◌++◌, length, get_or, insert, take}
 use Rattle.std.proofs.Common.{sym, ap, ◌∙◌, inl, inr, add-one, suc-mul, mul-le-mul_right, arith}
 use Rattle.std.proofs.lemmas.Bool.{cases_lt}
-use Rattle.std.proofs.lemmas.List.{length-append, length-take-le, take-append-le, take-take, take_all}
+use Rattle.std.proofs.lemmas.List.{length-append, length-take-le}
 use Rattle.std.proofs.lemmas.List.Elements.{All-push, All-take}
-use Rattle.pfs_base.specs.FlowShop.{FlowShop}
+use Rattle.pfs_base.specs.declared.bench.TheConstants.{SPAN_MAX}
+use Rattle.pfs_base.specs.FlowShop.{FlowShop, IsWithin, time_of}
+use Rattle.pfs_base.specs.Heads.{head_of}
+use Rattle.pfs_base.specs.Limits.{limits}
+use Rattle.pfs_base.proofs.Published.HeadRows.{head_of-append, head_of-take, head_of_before, heads_fit, next_head}
 use Rattle.pfs_iterate.specs.Private.Memory.{AreRows}
-use Rattle.pfs_iterate.specs.Iterated.{end_on}
+use Rattle.pfs_iterate.proofs.Delays.{above, job_at}
 
 -- an entry of a row is before those of the next row
 pub row_index : (row last machine machines : ℕ) → row ≤ last → machine < machines
@@ -22,13 +26,13 @@ module _ (shop : FlowShop) (jobs rows : List ℕ) (are : AreRows shop jobs rows)
         small = All-take (λ job. job < shop.jobs) count jobs are.small;
         long = are.long;
         each = λ row machine within lt. are.each row machine (omega arith) lt
-            ∙ ap (λ list. end_on shop list machine) (sym (take-take row count jobs (omega arith)));
+            ∙ sym (head_of-take shop jobs row machine count (omega arith));
       }
 
   pub rows_more : (new : List ℕ) (job : ℕ) → job < shop.jobs → length jobs < shop.jobs → length new ≡ length rows
       → ((index : ℕ) → index < length jobs * shop.machines + shop.machines → get_or new index 0 ≡ get_or rows index 0)
-      → ((k : ℕ) → k < shop.machines
-      → get_or new (length jobs * shop.machines + shop.machines + k) 0 ≡ end_on shop (jobs ++ job ∷ []) k)
+      → ((k : ℕ) → k < shop.machines → get_or new (length jobs * shop.machines + shop.machines + k) 0
+      ≡ head_of shop (jobs ++ job ∷ []) (length jobs + 1) k)
       → AreRows shop (jobs ++ job ∷ []) new
   rows_more new job small few long kept done =
       let more = length-append jobs (job ∷ []) in
@@ -40,28 +44,47 @@ module _ (shop : FlowShop) (jobs rows : List ℕ) (are : AreRows shop jobs rows)
           | inl before ↦
               kept (row * shop.machines + machine) (row_index row (length jobs) machine shop.machines (omega arith) lt)
               ∙ are.each row machine (omega arith) lt
-              ∙ ap (λ list. end_on shop list machine) (sym (take-append-le row jobs (job ∷ []) (omega arith)))
+              ∙ sym (head_of-append shop jobs row machine (job ∷ []) (omega arith))
           | inr last ↦
               let at : row ≡ suc (length jobs) = omega (arith, more, within) in
-              rw (take_all row (jobs ++ job ∷ []) (omega (arith, more)), at, suc-mul (length jobs) shop.machines)
-              (done machine lt)
+              rw (at, suc-mul (length jobs) shop.machines) (rw add-one at (done machine lt))
         ];
       }
 
   -- the entries of a row, and of the next one
-  pub end_above : (place machine machines : ℕ) → machines ≡ shop.machines → place ≤ length jobs → machine < shop.machines
-      → get_or rows (place * machines + machine) 0 ≡ end_on shop (take place jobs) machine
-  end_above place machine machines all within lt =
+  pub head_at : (place machine machines : ℕ) → machines ≡ shop.machines → place ≤ length jobs → machine < shop.machines
+      → get_or rows (place * machines + machine) 0 ≡ head_of shop jobs place machine
+  head_at place machine machines all within lt =
       ap (λ m. get_or rows (place * m + machine) 0) all ∙ are.each place machine within lt
 
-  pub end_below : (place machine machines : ℕ) → machines ≡ shop.machines → place < length jobs → machine < shop.machines
-      → get_or rows (place * machines + machines + machine) 0 ≡ end_on shop (take (place + 1) jobs) machine
-  end_below place machine machines all within lt =
+  pub head_after : (place machine machines : ℕ) → machines ≡ shop.machines → place < length jobs → machine < shop.machines
+      → get_or rows (place * machines + machines + machine) 0 ≡ head_of shop jobs (place + 1) machine
+  head_after place machine machines all within lt =
       let row : (place + 1) * shop.machines ≡ place * shop.machines + shop.machines =
       ap (λ p. p * shop.machines) (add-one place) ∙ suc-mul place shop.machines in
       ap (λ m. get_or rows (place * m + m + machine) 0) all ∙ ap (λ at. get_or rows (at + machine) 0) (sym row)
       ∙ are.each (place + 1) machine (omega (arith, within)) lt
 
-  pub few_with : (place job : ℕ) → place ≤ length jobs → length (take place jobs ++ job ∷ []) ≤ shop.jobs + 1
-  few_with place job within =
-      omega (arith, are.few, length-take-le place jobs within, length-append (take place jobs) (job ∷ []))
+-- a job at a place before which the rows have the heads
+module _ (shop : FlowShop) (jobs rows : List ℕ) (are : AreRows shop jobs rows) (job place : ℕ) (within : place ≤ length jobs)
+    (machine machines : ℕ) (all : machines ≡ shop.machines) (lt : machine < shop.machines) where
+  abbrev with_job : List ℕ
+  with_job = insert jobs place job
+
+  abbrev entry : ℕ
+  entry = get_or rows (place * machines + machine) 0
+
+  entry_is : entry ≡ head_of shop with_job place machine
+  entry_is = head_at shop jobs rows are place machine machines all within lt ∙ sym (above shop jobs job place within machine)
+
+  pub job_head : (before time : ℕ) → before ≡ head_of_before shop with_job (place + 1) machine
+      → time ≡ time_of shop job machine → max entry before + time ≡ head_of shop with_job (place + 1) machine
+  job_head before time before_is time_is =
+      next_head shop with_job place (place + 1) machine entry before time (omega arith) entry_is before_is
+      (time_is ∙ sym (job_at shop jobs job place within machine))
+
+  pub job_fits : IsWithin limits shop → (before : ℕ) → before ≡ head_of_before shop with_job (place + 1) machine
+      → (entry ≤ SPAN_MAX) × (before ≤ SPAN_MAX)
+  job_fits limited before before_is =
+      heads_fit shop limited with_job place (place + 1) machine entry before (omega (arith, are.few)) (omega arith) lt
+      entry_is before_is

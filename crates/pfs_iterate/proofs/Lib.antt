@@ -1,7 +1,8 @@
 mod Among
-mod Ends
+mod Delays
 mod Fronts
 mod HeadRows
+mod Keeping
 mod Least
 mod Listing
 mod Passes

@@ -10,15 +10,15 @@ use Rattle.std.proofs.lemmas.List.Sorted.{All-permutation, IsPermutation-reverse
 use Rattle.std.proofs.lemmas.List.FromFn.{get_or-range_with_len, length-range_with_len}
 use Rattle.pfs_order.specs.Sequence.{all_jobs}
 use Rattle.pfs_search.specs.Greedy.{jobs_taken}
-use Rattle.pfs_iterate.specs.Private.Steps.{raised}
+use Rattle.pfs_iterate.specs.Private.Steps.{renumbered}
 
-raised_more : (one job : ℕ) → one ≤ job → raised one job ≡ suc job
+raised_more : (one job : ℕ) → one ≤ job → renumbered one job ≡ suc job
 raised_more one job more = rw (le-leb one job more) refl
 
-raised_less : (one job : ℕ) → job < one → raised one job ≡ job
+raised_less : (one job : ℕ) → job < one → renumbered one job ≡ job
 raised_less one job less = rw (lt-leb one job less) refl
 
-raised_small : (one job count : ℕ) → job < count → raised one job < suc count
+raised_small : (one job count : ℕ) → job < count → renumbered one job < suc count
 raised_small one job count small = elim (cases_lt job one) [
   | inl less ↦ rw (raised_less one job less) (omega arith)
   | inr more ↦ rw (raised_more one job more) (omega arith)
@@ -26,16 +26,16 @@ raised_small one job count small = elim (cases_lt job one) [
 
 -- ---- all jobs but one
 
-range_raised : (one a n : ℕ) → one ≤ a → map (raised one) (range_with_len a n) ≡ range_with_len (a + 1) n
+range_raised : (one a n : ℕ) → one ≤ a → map (renumbered one) (range_with_len a n) ≡ range_with_len (a + 1) n
 range_raised one a zero more = refl
 range_raised one a (suc n) more =
     ap₂ (λ job jobs. job ∷ jobs) (raised_more one a more ∙ sym (add-one a)) (range_raised one (a + 1) n (omega arith))
 
-range_without : (a n p : ℕ) → p ≤ n → remove (range_with_len a (suc n)) p ≡ map (raised (a + p)) (range_with_len a n)
+range_without : (a n p : ℕ) → p ≤ n → remove (range_with_len a (suc n)) p ≡ map (renumbered (a + p)) (range_with_len a n)
 range_without a n zero within = sym (range_raised (a + 0) a n (omega arith))
 range_without a zero (suc p) within = absurd (omega arith)
 range_without a (suc n) (suc p) within =
-    let here : a ≡ raised (a + suc p) a = sym (raised_less (a + suc p) a (omega arith)) in
+    let here : a ≡ renumbered (a + suc p) a = sym (raised_less (a + suc p) a (omega arith)) in
     let same : a + 1 + p ≡ a + suc p = omega arith in
     ap₂ (λ job jobs. job ∷ jobs) here (rw same at (range_without (a + 1) n p (omega arith)))
 
@@ -61,14 +61,14 @@ taken_map f jobs (word ∷ words) few =
 
 pub taken_first : (n word : ℕ) (words : List ℕ) → length words ≤ n
     → jobs_taken (all_jobs (suc n)) (word ∷ words)
-    ≡ word % suc n ∷ map (raised (word % suc n)) (jobs_taken (all_jobs n) words)
+    ≡ word % suc n ∷ map (renumbered (word % suc n)) (jobs_taken (all_jobs n) words)
 taken_first n word words few =
     let place = word % suc n in
     let within : place < suc n = omega arith in
     rw (length-range_with_len 0 (suc n)) (ap₂ (λ job taken. job ∷ taken) (get_or-range_with_len 0 (suc n) place 0 within ∙ omega arith)
     (ap (λ list. jobs_taken list words) (range_without 0 n place (omega arith))
-    ∙ taken_map (raised (0 + place)) (all_jobs n) words (omega (arith, length-range_with_len 0 n, few))
-    ∙ ap (λ p. map (raised p) (jobs_taken (all_jobs n) words)) (omega arith)))
+    ∙ taken_map (renumbered (0 + place)) (all_jobs n) words (omega (arith, length-range_with_len 0 n, few))
+    ∙ ap (λ p. map (renumbered p) (jobs_taken (all_jobs n) words)) (omega arith)))
 
 taken_small : (n : ℕ) (words : List ℕ) → length words ≤ n → All (λ job. job < n) (jobs_taken (all_jobs n) words)
 taken_small n [] few = All-nil (λ job. job < n)
@@ -78,8 +78,8 @@ taken_small (suc n) (word ∷ words) few =
     let small = taken_small n words rest in
     let place = word % suc n in
     subst (All (λ job. job < suc n)) (sym (taken_first n word words rest))
-    (All-cons (λ job. job < suc n) place (map (raised place) (jobs_taken (all_jobs n) words))
-    (omega arith) (All-map (λ job. job < suc n) (raised place) (jobs_taken (all_jobs n) words)
+    (All-cons (λ job. job < suc n) place (map (renumbered place) (jobs_taken (all_jobs n) words))
+    (omega arith) (All-map (λ job. job < suc n) (renumbered place) (jobs_taken (all_jobs n) words)
     (λ k d within. raised_small place (get_or (jobs_taken (all_jobs n) words) k d) n (small k d within))))
 
 pub length-taken : (jobs words : List ℕ) → length (jobs_taken jobs words) ≡ length words

@@ -4,7 +4,7 @@ use Rattle.std.proofs.lemmas.Bool.{lt-ltb, le-ltb}
 use Rattle.pfs_base.specs.FlowShop.{FlowShop}
 use Rattle.pfs_base.specs.Paths.{makespan}
 use Rattle.pfs_iterate.specs.declared.options.Options.{Options}
-use Rattle.pfs_iterate.specs.Iterated.{State, after_round, after_rounds, improved, moved, words_of_round}
+use Rattle.pfs_iterate.specs.Iterated.{State, after_round, after_rounds, settled, moved, words_of_round}
 
 module _ (shop : FlowShop) (options : Options) (list jobs : List ℕ) (passes made : ℕ) (left : made < passes) where
   abbrev pub after_pass : List ℕ
@@ -13,14 +13,14 @@ module _ (shop : FlowShop) (options : Options) (list jobs : List ℕ) (passes ma
   more : passes - made ≡ suc (passes - (made + 1))
   more = omega arith
 
-  pub improved_goes_on : makespan shop after_pass < makespan shop jobs
-      → improved shop options list (passes - made) jobs ≡ improved shop options list (passes - (made + 1)) after_pass
-  improved_goes_on shorter =
-      ap (λ n. improved shop options list n jobs) more ∙ rw (lt-ltb (makespan shop after_pass) (makespan shop jobs) shorter) refl
+  pub settled_goes_on : makespan shop after_pass < makespan shop jobs
+      → settled shop options list (passes - made) jobs ≡ settled shop options list (passes - (made + 1)) after_pass
+  settled_goes_on shorter =
+      ap (λ n. settled shop options list n jobs) more ∙ rw (lt-ltb (makespan shop after_pass) (makespan shop jobs) shorter) refl
 
-  pub improved_stops : makespan shop jobs ≤ makespan shop after_pass → improved shop options list (passes - made) jobs ≡ after_pass
+  pub improved_stops : makespan shop jobs ≤ makespan shop after_pass → settled shop options list (passes - made) jobs ≡ after_pass
   improved_stops longer =
-      ap (λ n. improved shop options list n jobs) more ∙ rw (le-ltb (makespan shop after_pass) (makespan shop jobs) longer) refl
+      ap (λ n. settled shop options list n jobs) more ∙ rw (le-ltb (makespan shop after_pass) (makespan shop jobs) longer) refl
 
 pub rounds_more : (shop : FlowShop) (options : Options) (accept stay : List ℕ) (first count done : ℕ) (state : State)
     → done < count → after_rounds shop options accept stay (first + done) (count - done) state

@@ -12,7 +12,7 @@ use Rattle.pfs_search.specs.Neh.{with_jobs}
 use Rattle.pfs_iterate.specs.Alone.{by_ties}
 use Rattle.pfs_iterate.specs.Laws.{PartsLaw, GreedyLaw, FirstLaw}
 use Rattle.pfs_iterate.specs.declared.options.Options.{Options}
-use Rattle.pfs_iterate.specs.Iterated.{after_round, chosen, first_best, found, is_accepted, is_free, left_among, put, tie_break}
+use Rattle.pfs_iterate.specs.Iterated.{after_round, chosen, first_best, order_of_round, is_accepted, is_free, left_among, put, tie_break}
 use Rattle.pfs_iterate.specs.Iterated.{words_of_round}
 use Rattle.pfs_iterate.specs.declared.options.TheConstants.{TIES_FIRST}
 use Rattle.pfs_iterate.proofs.Among.{all_free, among_all}
@@ -54,11 +54,11 @@ module _ (shop : FlowShop) (options : Options) (held : options.held ≡ 0) (ties
       rw (among_all order (place_of (filter (is_free []) order) word), all_free order)
       (left_is (remove order (place_of order word)) removing)
 
-  found_is : (order removing others : List ℕ) → options.partial ≡ 0 → options.passes ≡ 0
+  order_is : (order removing others : List ℕ) → options.partial ≡ 0 → options.passes ≡ 0
       → front options.take (removing ++ others) ≡ removing
-      → found shop options [] order (removing ++ others)
+      → order_of_round shop options [] order (removing ++ others)
       ≡ with_jobs shop (jobs_left order removing) (jobs_taken order removing)
-  found_is order removing others partial passes all =
+  order_is order removing others partial passes all =
       rw (all, held, partial, passes, all_free order, left_is order removing)
       (rw held at (all_put (jobs_left order removing) (jobs_taken order removing)))
 
@@ -66,7 +66,7 @@ pub greedy_law : GreedyLaw
 greedy_law shop options state word removing others held partial passes ties long =
     let all : front options.take (removing ++ others) ≡ removing =
     take-append-le options.take removing others (omega arith) ∙ take_all options.take removing (omega arith) in
-    rw (found_is shop options held ties state.current removing others partial passes all, accepted_none) refl
+    rw (order_is shop options held ties state.current removing others partial passes all, accepted_none) refl
 
 pub first_law : FirstLaw
 first_law shop jobs more job = (

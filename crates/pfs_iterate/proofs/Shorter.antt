@@ -13,7 +13,7 @@ use Rattle.pfs_order.specs.Sequence.{IsSequence}
 use Rattle.pfs_order.proofs.Published.Sequences.{IsSequence-permutation, insert-remove, others_are}
 use Rattle.pfs_insert.specs.Insertion.{makespan_with}
 use Rattle.pfs_iterate.specs.declared.options.Options.{Options}
-use Rattle.pfs_iterate.specs.Iterated.{chosen, first_best, improved, moved, tie_break}
+use Rattle.pfs_iterate.specs.Iterated.{chosen, first_best, settled, moved, tie_break}
 use Rattle.pfs_iterate.specs.Private.Steps.{IsBestFrom}
 use Rattle.pfs_iterate.proofs.Least.{first_best_is, next_better, next_no_better}
 
@@ -99,14 +99,14 @@ module _ (shop : FlowShop) (options : Options) where
   pass_kept (job ∷ list) old jobs kept =
       pass_kept list old (moved shop options jobs job) (moved_kept old jobs job kept)
 
-  pub improved_shorter : (list : List ℕ) (passes : ℕ) (jobs : List ℕ) → IsSequence shop.jobs jobs
-      → makespan shop (improved shop options list passes jobs) ≤ makespan shop jobs
-  improved_shorter list zero jobs sequence = omega arith
-  improved_shorter list (suc passes) jobs sequence =
+  pub settled_shorter : (list : List ℕ) (passes : ℕ) (jobs : List ℕ) → IsSequence shop.jobs jobs
+      → makespan shop (settled shop options list passes jobs) ≤ makespan shop jobs
+  settled_shorter list zero jobs sequence = omega arith
+  settled_shorter list (suc passes) jobs sequence =
       let next : List ℕ = fold (moved shop options) jobs list in
       let kept = pass_kept list jobs jobs (record { sequence = sequence; shorter = omega arith }) in
       elim (cases_lt (makespan shop next) (makespan shop jobs)) [
         | inl shorter ↦ rw (lt-ltb (makespan shop next) (makespan shop jobs) shorter)
-            (omega (arith, shorter, improved_shorter list passes next kept.sequence))
+            (omega (arith, shorter, settled_shorter list passes next kept.sequence))
         | inr no_shorter ↦ rw (le-ltb (makespan shop next) (makespan shop jobs) no_shorter) kept.shorter
       ]

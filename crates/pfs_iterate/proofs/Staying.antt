@@ -7,7 +7,7 @@ use Rattle.std.proofs.lemmas.Bool.{cases_Bool, eqb-true}
 use Rattle.pfs_base.specs.FlowShop.{FlowShop}
 use Rattle.pfs_base.specs.Paths.{makespan}
 use Rattle.pfs_iterate.specs.declared.options.Options.{Options}
-use Rattle.pfs_iterate.specs.Iterated.{chosen, improved, is_free, moved, put}
+use Rattle.pfs_iterate.specs.Iterated.{chosen, settled, is_free, moved, put}
 use Rattle.pfs_iterate.specs.Rounds.{staying}
 
 module _ (stay : List ℕ) (job : ℕ) (free : is_free stay job ≡ true) where
@@ -48,12 +48,12 @@ module _ (stay : List ℕ) (shop : FlowShop) (options : Options) where
   staying-pass jobs (job ∷ list) free =
       staying-pass (moved shop options jobs job) list free.1 ∙ staying-moved stay job free.0 shop options jobs
 
-  pub staying-improved : (list : List ℕ) (passes : ℕ) (jobs : List ℕ) → AreFree list
-      → staying stay (improved shop options list passes jobs) ≡ staying stay jobs
-  staying-improved list zero jobs free = refl
-  staying-improved list (suc passes) jobs free =
+  pub staying-settled : (list : List ℕ) (passes : ℕ) (jobs : List ℕ) → AreFree list
+      → staying stay (settled shop options list passes jobs) ≡ staying stay jobs
+  staying-settled list zero jobs free = refl
+  staying-settled list (suc passes) jobs free =
       let next = fold (moved shop options) jobs list in
       elim (cases_Bool (nat_lt (makespan shop next) (makespan shop jobs))) [
-        | inl shorter ↦ rw shorter (staying-improved list passes next free ∙ staying-pass jobs list free)
+        | inl shorter ↦ rw shorter (staying-settled list passes next free ∙ staying-pass jobs list free)
         | inr longer ↦ rw longer (staying-pass jobs list free)
       ]

@@ -10,7 +10,7 @@ use Rattle.pfs_base.specs.Paths.{makespan}
 use Rattle.pfs_search.specs.Solution.{words_after}
 use Rattle.pfs_search.proofs.Published.Words.{after_are, later, later-add, length-first_words, of_seed, words-add}
 use Rattle.pfs_iterate.specs.declared.options.Options.{Options}
-use Rattle.pfs_iterate.specs.Iterated.{State, after_round, found, is_accepted}
+use Rattle.pfs_iterate.specs.Iterated.{State, after_round, order_of_round, is_accepted}
 use Rattle.pfs_iterate.specs.Private.Steps.{generator}
 use Rattle.std.specs.Prelude.{if◌then◌else◌, nat_lt}
 
@@ -54,9 +54,9 @@ first_of_round seed rounds each used few =
 -- ---- words that decide nothing
 
 module _ (shop : FlowShop) (options : Options) (stay : List ℕ) (partial : options.partial ≡ 0) (passes : options.passes ≡ 0) where
-  found_front : (order words : List ℕ) (used : ℕ) → options.take ≤ used
-      → found shop options stay order (front used words) ≡ found shop options stay order words
-  found_front order words used few = rw (partial, passes, take-take options.take used words few) refl
+  order_front : (order words : List ℕ) (used : ℕ) → options.take ≤ used
+      → order_of_round shop options stay order (front used words) ≡ order_of_round shop options stay order words
+  order_front order words used few = rw (partial, passes, take-take options.take used words few) refl
 
   round_front : (accept : List ℕ) (state : State) (words : List ℕ) (used : ℕ) → options.take + 1 ≤ used
       → after_round shop options accept stay state (front used words) ≡ after_round shop options accept stay state words
@@ -69,8 +69,8 @@ module _ (shop : FlowShop) (options : Options) (stay : List ℕ) (partial : opti
         best = if nat_lt (makespan shop new) (makespan shop state.best) then new else state.best;
       } in
       ap₂ outcome
-      (ap (found shop options stay state.current) behind
-      ∙ found_front state.current (drop 1 words) (used - 1) (omega arith))
+      (ap (order_of_round shop options stay state.current) behind
+      ∙ order_front state.current (drop 1 words) (used - 1) (omega arith))
       (get_or-take used words 0 0 (omega arith))
 
 -- a round with no pass is one by its first words

@@ -4,7 +4,7 @@ use Rattle.pfs_base.specs.FlowShop.{FlowShop}
 use Rattle.pfs_base.specs.Paths.{makespan}
 use Rattle.pfs_insert.specs.Insertion.{makespan_with}
 use Rattle.pfs_order.specs.Sequence.{IsSequence}
-use Rattle.pfs_iterate.specs.Iterated.{chosen, improved, put}
+use Rattle.pfs_iterate.specs.Iterated.{chosen, settled, put}
 use Rattle.pfs_iterate.specs.declared.options.Options.{Options}
 
 -- the options with this rule for equally good places and no held jobs
@@ -24,7 +24,7 @@ with_more shop ties sequence more = fold (put shop (by_ties ties)) sequence more
 -- this sequence after passes over a list of jobs, until one makes it no shorter, and the makespan
 pub record IsBuilt (shop : FlowShop) (ties : ℕ) (sequence more list : List ℕ) (passes : ℕ) (order : List ℕ) (span : ℕ)
     : Type 0 where
-  pub found : order ≡ improved shop (by_ties ties) list passes (with_more shop ties sequence more)
+  pub found : order ≡ settled shop (by_ties ties) list passes (with_more shop ties sequence more)
   -- it has each job once
   pub long : length order ≡ length sequence + length more
   pub distinct : IsSequence shop.jobs order

@@ -1,10 +1,11 @@
 -- Iterated greedy that also accepts longer orders, as a function of its words.
-use Rattle.std.specs.Prelude.{ℕ, zero, suc, ◌+◌, ◌-◌, Bool, true, not, List, [], ◌∷◌, ◌++◌, length, fold, filter, sum_by}
+use Rattle.std.specs.Prelude.{ℕ, zero, suc, ◌+◌, ◌-◌, Bool, true, not, List, [], ◌∷◌, ◌++◌, length, fold, filter, min, sum_by}
 use Rattle.std.specs.Prelude.{nat_le, nat_lt, nat_eq, slice_index, insert, remove, if◌then◌else◌, take as front, drop}
 use Rattle.std.specs.List.{list_all, list_any, position_or_len, range_with_len, slice_index_or}
 use Rattle.pfs_base.specs.FlowShop.{FlowShop}
+use Rattle.pfs_base.specs.Heads.{head_of}
 use Rattle.pfs_base.specs.Lists.{below}
-use Rattle.pfs_base.specs.Paths.{heaviest, makespan, operation}
+use Rattle.pfs_base.specs.Paths.{makespan}
 use Rattle.pfs_order.specs.Sequence.{all_jobs}
 use Rattle.pfs_insert.specs.Insertion.{makespan_with}
 use Rattle.pfs_search.specs.Greedy.{jobs_taken, place_of}
@@ -12,19 +13,19 @@ use Rattle.pfs_search.specs.Solution.{words_after}
 use Rattle.pfs_iterate.specs.declared.options.Options.{Options}
 use Rattle.pfs_iterate.specs.declared.options.TheConstants.{TIES_IDLE}
 
--- when a machine ends the last job of a sequence: the weight of the heaviest path to this operation, and 0 for no jobs
-abbrev pub end_on : FlowShop → List ℕ → ℕ → ℕ
-end_on shop [] machine = 0
-end_on shop (job ∷ jobs) machine = heaviest (operation shop (job ∷ jobs)) 0 0 (length jobs) machine
+-- when the first `count` jobs of a sequence are done, summed over the machines
+abbrev pub ends : FlowShop → List ℕ → ℕ → ℕ
+ends shop jobs count = sum_by (head_of shop jobs count) (below shop.machines)
 
--- the sum of these over the machines
-abbrev pub ends : FlowShop → List ℕ → ℕ
-ends shop jobs = sum_by (end_on shop jobs) (below shop.machines)
+-- the number of jobs up to the one at a place, and of all jobs at the place after the last one
+abbrev pub count_to : List ℕ → ℕ → ℕ
+count_to jobs place = min (place + 1) (length jobs)
 
 -- how much later, summed over the machines, the job at a place ends if another job is inserted before it; at the place
 -- after the last job, how much later the sequence ends
 abbrev pub total_delay : FlowShop → List ℕ → ℕ → ℕ → ℕ
-total_delay shop jobs job place = ends shop (front (place + 2) (insert jobs place job)) - ends shop (front (place + 1) jobs)
+total_delay shop jobs job place =
+    ends shop (insert jobs place job) (count_to jobs place + 1) - ends shop jobs (count_to jobs place)
 
 -- what decides between places with equal makespans: the total delay, or nothing
 abbrev pub tie_break : FlowShop → ℕ → List ℕ → ℕ → ℕ → ℕ
@@ -57,11 +58,11 @@ moved shop options jobs job =
     else jobs
 
 -- the sequence after passes over a list of jobs, until one makes it no shorter
-abbrev pub improved : FlowShop → Options → List ℕ → ℕ → List ℕ → List ℕ
-improved shop options list zero jobs = jobs
-improved shop options list (suc passes) jobs =
+abbrev pub settled : FlowShop → Options → List ℕ → ℕ → List ℕ → List ℕ
+settled shop options list zero jobs = jobs
+settled shop options list (suc passes) jobs =
     let next = fold (moved shop options) jobs list in
-    if nat_lt (makespan shop next) (makespan shop jobs) then improved shop options list passes next else next
+    if nat_lt (makespan shop next) (makespan shop jobs) then settled shop options list passes next else next
 
 -- whether a job may move: it has no mark, which is a number above 0 at its place in `stay`
 abbrev pub is_free : List ℕ → ℕ → Bool
@@ -82,15 +83,28 @@ abbrev pub left_among : (ℕ → Bool) → List ℕ → List ℕ → List ℕ
 left_among free jobs words =
     fold (λ rest word. remove rest (place_among free rest (place_of (filter free rest) word))) jobs words
 
--- the order that a round finds by its words after the first: the next `take` words remove jobs that may move, and the
--- words after them name all jobs in the order in which a pass visits them, but for those that stay
-abbrev pub found : FlowShop → Options → List ℕ → List ℕ → List ℕ → List ℕ
-found shop options stay order words =
-    let removing = front options.take words in
-    let list = filter (is_free stay) (jobs_taken (all_jobs shop.jobs) (drop options.take words)) in
-    let left = front options.held order ++ left_among (is_free stay) (drop options.held order) removing in
-    improved shop options list options.passes (fold (put shop options) (improved shop options list options.partial left)
-    (jobs_taken (movable options.held stay order) removing))
+-- the steps of a round by its words after the first: its first `take` words remove jobs that may move
+abbrev pub removed : Options → List ℕ → List ℕ → List ℕ → List ℕ
+removed options stay order words = jobs_taken (movable options.held stay order) (front options.take words)
+
+-- the others name all jobs in the order in which a pass visits them, but for those that stay
+abbrev pub visits : FlowShop → Options → List ℕ → List ℕ → List ℕ
+visits shop options stay words = filter (is_free stay) (jobs_taken (all_jobs shop.jobs) (drop options.take words))
+
+-- the sequence that is left, after passes
+abbrev pub partial_sequence : FlowShop → Options → List ℕ → List ℕ → List ℕ → List ℕ
+partial_sequence shop options stay order words = settled shop options (visits shop options stay words) options.partial
+    (front options.held order ++ left_among (is_free stay) (drop options.held order) (front options.take words))
+
+-- the order with the removed jobs inserted into it one after another
+abbrev pub constructed : FlowShop → Options → List ℕ → List ℕ → List ℕ → List ℕ
+constructed shop options stay order words =
+    fold (put shop options) (partial_sequence shop options stay order words) (removed options stay order words)
+
+-- the order that a round makes: the constructed one after passes
+abbrev pub order_of_round : FlowShop → Options → List ℕ → List ℕ → List ℕ → List ℕ
+order_of_round shop options stay order words = settled shop options (visits shop options stay words) options.passes
+    (constructed shop options stay order words)
 
 -- whether a word accepts a new makespan: one that is not greater than the old one always, one that is greater by d with
 -- the chance accept[d] of 2 ^ 32, and none beyond the end of the table
@@ -106,7 +120,7 @@ pub record State : Type 0 where
 -- the state after a round with these words
 abbrev pub after_round : FlowShop → Options → List ℕ → List ℕ → State → List ℕ → State
 after_round shop options accept stay state words =
-    let new = found shop options stay state.current (drop 1 words) in
+    let new = order_of_round shop options stay state.current (drop 1 words) in
     let span = makespan shop new in
     record {
       current = if is_accepted accept (makespan shop state.current) span (slice_index words 0)

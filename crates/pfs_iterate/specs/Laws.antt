@@ -1,13 +1,14 @@
 -- Laws of the rounds.
-use Rattle.std.specs.Prelude.{◌≡◌, ℕ, ◌+◌, ◌≤◌, List, [], ◌∷◌, ◌++◌, length, insert, take as front}
+use Rattle.std.specs.Prelude.{◌≡◌, ℕ, ◌+◌, ◌≤◌, List, [], ◌∷◌, ◌++◌, length, insert}
 use Rattle.pfs_base.specs.FlowShop.{FlowShop}
+use Rattle.pfs_base.specs.Heads.{head_of}
 use Rattle.pfs_insert.specs.Insertion.{best_place}
 use Rattle.pfs_search.specs.Greedy.{after_round as greedy_round}
 use Rattle.pfs_search.specs.Neh.{with_jobs}
 use Rattle.pfs_iterate.specs.Alone.{by_ties, with_more}
 use Rattle.pfs_iterate.specs.declared.options.Options.{Options}
 use Rattle.pfs_iterate.specs.declared.options.TheConstants.{TIES_FIRST}
-use Rattle.pfs_iterate.specs.Iterated.{State, after_round, after_rounds, chosen, end_on}
+use Rattle.pfs_iterate.specs.Iterated.{State, after_round, after_rounds, chosen, count_to}
 
 -- rounds in two parts have the state that all of them have at once
 abbrev pub PartsLaw : Type 0
@@ -27,7 +28,8 @@ GreedyLaw = (shop : FlowShop) (options : Options) (state : State) (word : ℕ) (
 -- not negative
 abbrev pub DelayLaw : Type 0
 DelayLaw = (shop : FlowShop) (jobs : List ℕ) (job place machine : ℕ) → place ≤ length jobs
-    → end_on shop (front (place + 1) jobs) machine ≤ end_on shop (front (place + 2) (insert jobs place job)) machine
+    → head_of shop jobs (count_to jobs place) machine
+    ≤ head_of shop (insert jobs place job) (count_to jobs place + 1) machine
 
 -- by TIES_FIRST the chosen place is the best place, and more jobs are inserted as NEH inserts its ranking
 abbrev pub FirstLaw : Type 0

@@ -1,4 +1,5 @@
 pub mod Alone
+pub mod Examples
 pub mod Iterated
 pub mod Laws
 pub mod Private

@@ -4,15 +4,16 @@ use Rattle.pfs_base.specs.declared.limits.TheConstants.{MOST_ROUNDS}
 use Rattle.pfs_base.specs.FlowShop.{FlowShop}
 use Rattle.pfs_base.specs.Paths.{makespan}
 use Rattle.pfs_order.specs.Sequence.{IsSequence}
-use Rattle.pfs_iterate.specs.Private.Memory.{IsWorkFor}
+use Rattle.pfs_iterate.specs.Private.Memory.{AreLists, IsWorkFor}
 use Rattle.pfs_iterate.specs.Iterated.{after_rounds, is_free}
 use Rattle.pfs_iterate.specs.declared.options.Options.{Options}
-use Rattle.pfs_iterate.specs.declared.options.TheConstants.{TIES_IDLE}
+use Rattle.pfs_iterate.specs.declared.options.TheConstants.{MOST_TIES}
 use Rattle.pfs_iterate.specs.declared.iterated.Iterated.{Iterated}
 
--- the memory of a shop's rounds, with room for the words of a round and for two orders
+-- the memory of a shop's searches and rounds, with room for the words of a round and for two orders
 pub record IsIteratedFor (shop : FlowShop) (iterated : Iterated) : Type 0 where
   pub work : IsWorkFor shop iterated.work
+  pub lists : AreLists shop iterated.lists
   pub words : length iterated.words.items ≡ 2 * shop.jobs + 1
   pub current : length iterated.current.order ≡ shop.jobs
   pub best : length iterated.best.order ≡ shop.jobs
@@ -23,7 +24,7 @@ pub record CanIterate (shop : FlowShop) (options : Options) : Type 0 where
   pub some : 1 ≤ options.take
   pub few : options.held + options.take ≤ shop.jobs
   pub last : options.first + options.count ≤ MOST_ROUNDS
-  pub ties : options.ties ≤ TIES_IDLE
+  pub ties : options.ties ≤ MOST_TIES
 
 -- the jobs that stay, in their order
 abbrev pub staying : List ℕ → List ℕ → List ℕ

@@ -27,16 +27,19 @@ pub(crate) fn generator(seed: u64, round: u32, each: usize) -> Pcg32
     rng
 }
 
-/// Writes the first words of a round that has `each`, and skips the others.
-pub(crate) fn draw(rng: &mut Pcg32, words: &mut [u32], each: usize)
-    requires few { length words.old ≤ each }
-    ensures words { words.new ≡ first_words pcg32 (length words.old) rng.old }
+/// Writes the first `used` words of a round that has `each`, and skips the others.
+pub(crate) fn draw(rng: &mut Pcg32, list: &mut Vec<u32>, used: usize, each: usize)
+    requires room { used ≤ length list.old.items }
+    requires few { used ≤ each }
+    ensures words { front used list.new.items ≡ first_words pcg32 used rng.old }
+    ensures long { length list.new.items ≡ length list.old.items }
     ensures rest { rng.new ≡ advance 64 multiplier_64 each rng.old }
 {
-    for place in 0..words.len() {
+    let words = list.as_mut_slice();
+    for place in 0..used {
         words[place] = rng.next_word();
     }
-    rng.advance((each - words.len()) as u64);
+    rng.advance((each - used) as u64);
 }
 
 /// Copies an order, and removes from the copy the jobs that the words name among those that may move.

@@ -1,11 +1,11 @@
 //! Heads of a sequence, and how much later an insertion makes what is behind it end.
-ghost use Rattle.std.specs.Prelude.{◌≡◌, ◌+◌, ◌-◌, ◌<◌, ◌≤◌, ◌++◌, [], ◌∷◌, length, take as front, slice_index, IfOk};
+ghost use Rattle.std.specs.Prelude.{◌≡◌, ◌+◌, ◌<◌, ◌≤◌, ◌++◌, [], ◌∷◌, length, take as front, IfOk};
 ghost use Rattle.pfs_order.specs.Sequence.{IsSequence};
 ghost use Rattle.pfs_iterate.specs.Private.Memory.{AreHeads, AreRows};
-ghost use Rattle.pfs_iterate.specs.Iterated.{ends, total_delay};
+ghost use Rattle.pfs_iterate.specs.Iterated.{total_delay};
 
-use crate::rows::{end_after, times_of};
 use pfs_base::Instance;
+use pfs_base::heads::{end_after, times_of};
 use std::alloc::{AllocError, Global};
 
 /// The heads of some jobs in sequence: a row of zeros, and then for each job the ends of the jobs so far.
@@ -28,6 +28,7 @@ impl Heads {
     }
 
     /// Makes these the heads of the first `count` jobs of a sequence. Rows of a front that is the same as before stay.
+    #[tactic(auto, using(crate::proofs::HeadRows::rows_fewer))]
     pub(crate) fn follow(&mut self, instance: &Instance, sequence: &[u32], count: usize)
         requires heads { AreHeads instance.now.shop self.old }
         requires sequence { IsSequence instance.now.shop.jobs sequence.now }
@@ -98,7 +99,7 @@ fn add_row(instance: &Instance, jobs: &[u32], job: usize, rows: &mut [u64])
 fn delay_at_end(instance: &Instance, jobs: &[u32], rows: &[u64], job: usize) -> u64
     requires rows { AreRows instance.now.shop jobs.now rows.now }
     requires job { job < instance.now.shop.jobs }
-    ensures { result ≡ ends instance.now.shop (jobs.now ++ job ∷ []) - ends instance.now.shop jobs.now }
+    ensures { result ≡ total_delay instance.now.shop jobs.now job (length jobs.now) }
 {
     let machines = instance.machines();
     let times = times_of(instance, job);
@@ -118,8 +119,7 @@ fn delay_before(instance: &Instance, jobs: &[u32], rows: &[u64], job: usize, pla
     requires rows { AreRows instance.now.shop jobs.now rows.now }
     requires job { job < instance.now.shop.jobs }
     requires place { place < length jobs.now }
-    ensures { result ≡ ends instance.now.shop ((front place jobs.now ++ job ∷ []) ++ slice_index jobs.now place ∷ [])
-        - ends instance.now.shop (front (place + 1) jobs.now) }
+    ensures { result ≡ total_delay instance.now.shop jobs.now job place }
 {
     let machines = instance.machines();
     let times = times_of(instance, job);

@@ -1,20 +1,14 @@
 //! Rounds on two orders, with all their memory.
 ghost use Rattle.std.specs.Prelude.{◌≡◌, ◌≤◌, IfOk, length, take as front};
 ghost use Rattle.pfs_order.specs.Sequence.{IsSequence};
-ghost use Rattle.pfs_search.specs.Search.{IsSearchOf};
-ghost use Rattle.pfs_base.specs.Paths.{makespan};
 ghost use Rattle.pfs_iterate.specs.Iterated.{movable};
-ghost use Rattle.pfs_iterate.specs.Private.Memory.{IsWorkFor};
 ghost use Rattle.pfs_iterate.specs.Rounds.{CanIterate, IsIterated, IsIteratedFor};
 
 use crate::found::Found;
 use crate::options::Options;
-use crate::places::span_of;
-use crate::rounds::play;
-use crate::work::Work;
+use crate::work::{Lists, Work};
 use pfs_base::Instance;
 use pfs_order::Order;
-use pfs_search::Search;
 use pfs_wave::OfShop;
 use std::alloc::{AllocError, Global};
 
@@ -27,13 +21,15 @@ pub struct Makespans {
     pub best: u64,
 }
 
-/// The memory of rounds of an instance.
+/// The memory of searches and rounds of an instance.
 #[derive(Drop)]
 pub struct Iterated {
-    pub(crate) work: Work,
-    words: Vec<u32>,
-    current: Found,
-    best: Found,
+    /// What rounds work with, and the memory of searches without them.
+    pub work: Work,
+    pub(crate) lists: Lists,
+    pub(crate) words: Vec<u32>,
+    pub(crate) current: Found,
+    pub(crate) best: Found,
 }
 
 impl OfShop for Iterated {
@@ -52,6 +48,7 @@ impl Iterated {
         };
         Ok(Iterated {
             work: Work::new(alloc, instance)?,
+            lists: Lists::new(alloc, instance)?,
             words: vec![in alloc; 0; 2 * size + 1]?,
             current: Found {
                 order: current,
@@ -73,14 +70,12 @@ impl Iterated {
     pub fn rounds(
         &mut self,
         instance: &Instance,
-        search: &mut Search,
         options: &Options,
         accept: &[u32],
         stay: &[u8],
         current: &mut [u32],
         best: &mut [u32],
     ) -> Makespans
-        requires search { ⟦<Search as OfShop>⟧.is_of search.old instance.now.shop }
         requires own { ⟦<Iterated as OfShop>⟧.is_of self.old instance.now.shop }
         requires options { CanIterate instance.now.shop options.now }
         requires current_all { length current.old ≡ instance.now.shop.jobs }
@@ -92,21 +87,12 @@ impl Iterated {
         ensures done { IsIterated instance.now.shop options.now accept.now stay.now current.old best.old
             current.new result.current best.new result.best }
         ensures still { ⟦<Iterated as OfShop>⟧.is_of self.new instance.now.shop }
-        ensures search { ⟦<Search as OfShop>⟧.is_of search.new instance.now.shop }
+        ensures kept { self.new.work.search.kept ≡ self.old.work.search.kept }
+        ensures cells { self.new.work.search.cells ≡ self.old.work.search.cells }
     {
-        start(&mut self.current, &mut self.work, instance, search, current);
-        start(&mut self.best, &mut self.work, instance, search, best);
-        play(
-            &mut self.work,
-            instance,
-            search,
-            options,
-            accept,
-            stay,
-            &mut self.words,
-            &mut self.current,
-            &mut self.best,
-        );
+        self.current.set(instance, current);
+        self.best.set(instance, best);
+        self.play(instance, options, accept, stay);
         copy_order(&self.current.order, current);
         copy_order(&self.best.order, best);
         Makespans {
@@ -114,23 +100,6 @@ impl Iterated {
             best: self.best.span,
         }
     }
-}
-
-// Keeps an order and its makespan.
-fn start(found: &mut Found, work: &mut Work, instance: &Instance, search: &mut Search, jobs: &[u32])
-    requires all { length jobs.now ≡ instance.now.shop.jobs }
-    requires sequence { IsSequence instance.now.shop.jobs jobs.now }
-    requires found { length found.old.order ≡ instance.now.shop.jobs }
-    requires work { IsWorkFor instance.now.shop work.old }
-    requires search { IsSearchOf instance.now.shop search.old }
-    ensures order { found.new.order ≡ jobs.now }
-    ensures span { found.new.span ≡ makespan instance.now.shop jobs.now }
-    ensures work { IsWorkFor instance.now.shop work.new }
-    ensures search { IsSearchOf instance.now.shop search.new }
-{
-    found.order.set(jobs);
-    work.seq.set(jobs);
-    found.span = span_of(instance, search, &mut work.places, &mut work.seq);
 }
 
 // Writes an order over another one.

@@ -3,6 +3,7 @@
 
 mod alone;
 mod destroy;
+mod examples;
 mod found;
 mod heads;
 mod improve;
@@ -11,10 +12,10 @@ pub mod laws;
 mod options;
 mod places;
 mod rounds;
-pub mod rows;
 mod stay;
 mod work;
 
 pub use iterated::{Iterated, Makespans};
-pub use options::{Options, TIES_FIRST, TIES_IDLE};
+pub use options::{MOST_TIES, Options, TIES_FIRST, TIES_IDLE};
 pub use stay::count_movable;
+pub use work::Work;

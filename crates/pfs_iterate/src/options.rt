@@ -6,6 +6,9 @@ pub const TIES_FIRST: u32 = 0;
 /// Of equally good places the first with the least total delay is taken (Fernandez-Viagas and Framinan, 2014).
 pub const TIES_IDLE: u32 = 1;
 
+/// The greatest number of a rule for equally good places.
+pub const MOST_TIES: u32 = TIES_IDLE;
+
 /// Which rounds are made, and of which kind: the struct `pfs_iterate_options` of C.
 #[repr(C)]
 #[derive(Clone, Copy, Debug, PartialEq, Eq)]

@@ -2,15 +2,15 @@
 ghost use Rattle.std.specs.Prelude.{◌≡◌, ℕ, ◌+◌, ◌-◌, ◌<◌, ◌≤◌, length, take as front, Contains, insert};
 ghost use Rattle.std.specs.Prelude.{IfOk};
 ghost use Rattle.std.specs.List.{slice_index_or};
-ghost use Rattle.pfs_base.specs.Paths.{makespan};
 ghost use Rattle.pfs_insert.specs.Insertion.{IsFirstLeast, makespan_with};
 ghost use Rattle.pfs_search.specs.Search.{IsSearchOf};
-ghost use Rattle.pfs_iterate.specs.Iterated.{chosen, total_delay};
-ghost use Rattle.pfs_iterate.specs.Private.Steps.{IsBestFrom, IsLeastFrom};
-ghost use Rattle.pfs_iterate.specs.Private.Memory.{AreHeads, IsPlacesFor};
+ghost use Rattle.pfs_iterate.specs.Iterated.{total_delay};
+ghost use Rattle.pfs_iterate.specs.Private.Steps.{IsBestFrom, IsLeastFrom, IsPlaceFor};
+ghost use Rattle.pfs_iterate.specs.Private.Memory.{AreHeads, IsPlacesFor, IsSearchAfter, IsWorkAfter, IsWorkFor};
 
 use crate::heads::Heads;
 use crate::options::{Options, TIES_FIRST, TIES_IDLE};
+use crate::work::Work;
 use pfs_base::Instance;
 use pfs_insert::Placed;
 use pfs_order::Seq;
@@ -151,10 +151,7 @@ fn choose(
     requires long { length spans.now ≡ length seq.now.jobs + 1 }
     requires best { IsFirstLeast (makespan_with instance.now.shop seq.now.jobs job) (length seq.now.jobs + 1) best.place }
     requires span { best.span ≡ makespan_with instance.now.shop seq.now.jobs job best.place }
-    ensures chosen { result.place ≡ chosen instance.now.shop options.now seq.now.jobs job }
-    ensures from { options.now.held ≤ result.place }
-    ensures within { result.place ≤ length seq.now.jobs }
-    ensures span { result.span ≡ makespan_with instance.now.shop seq.now.jobs job result.place }
+    ensures place { IsPlaceFor instance.now.shop options.now seq.now.jobs job result.place result.span }
     ensures heads { AreHeads instance.now.shop heads.new }
 {
     let best = least_from(spans, options.held, best);
@@ -173,8 +170,8 @@ fn choose(
 // as it has room for.
 #[inline(always)]
 fn best_of_all(
-    instance: &Instance,
     search: &mut Search,
+    instance: &Instance,
     seq: &Seq,
     job: usize,
     spans: &mut [u64],
@@ -188,7 +185,7 @@ fn best_of_all(
     ensures spans { (place : ℕ) → place ≤ length seq.now.jobs → place < length spans.old
         → slice_index_or spans.new place 0 ≡ makespan_with instance.now.shop seq.now.jobs job place }
     ensures long { length spans.new ≡ length spans.old }
-    ensures search { IsSearchOf instance.now.shop search.new }
+    ensures search { IsSearchAfter instance.now.shop search.old search.new }
 {
     // Called for its contract, which says that no place before the best one is as good.
     pfs_insert::laws::best_place();
@@ -203,35 +200,28 @@ fn best_of_all(
 
 // The chosen place for a job, and the makespan with the job there.
 #[inline(always)]
-fn find_place(
-    instance: &Instance,
-    search: &mut Search,
-    places: &mut Places,
-    seq: &Seq,
-    options: &Options,
-    job: usize,
-) -> Placed<u64>
-    requires search { IsSearchOf instance.now.shop search.old }
-    requires places { IsPlacesFor instance.now.shop places.old }
-    requires size { seq.now.size ≡ instance.now.shop.jobs }
-    requires held { options.now.held ≤ length seq.now.jobs }
+fn find_place(work: &mut Work, instance: &Instance, options: &Options, job: usize) -> Placed<u64>
+    requires work { IsWorkFor instance.now.shop work.old }
+    requires held { options.now.held ≤ length work.old.seq.jobs }
     requires job { job < instance.now.shop.jobs }
-    requires absent { Contains seq.now.jobs job → ⊥ }
-    ensures chosen { result.place ≡ chosen instance.now.shop options.now seq.now.jobs job }
-    ensures from { options.now.held ≤ result.place }
-    ensures within { result.place ≤ length seq.now.jobs }
-    ensures span { result.span ≡ makespan_with instance.now.shop seq.now.jobs job result.place }
-    ensures search { IsSearchOf instance.now.shop search.new }
-    ensures places { IsPlacesFor instance.now.shop places.new }
+    requires absent { Contains work.old.seq.jobs job → ⊥ }
+    ensures place { IsPlaceFor instance.now.shop options.now work.old.seq.jobs job result.place result.span }
+    ensures seq { work.new.seq ≡ work.old.seq }
+    ensures work { IsWorkAfter instance.now.shop work.old work.new }
 {
+    let Work {
+        search,
+        seq,
+        places,
+    } = work;
     // Few held jobs seldom have the best place among them.
     if options.ties == TIES_FIRST && options.held <= seq.len() / FEW_HELD {
-        let best = best_of_all(instance, search, seq, job, &mut []);
+        let best = best_of_all(search, instance, seq, job, &mut []);
         if options.held <= best.place {
             return best;
         }
     }
-    let best = best_of_all(instance, search, seq, job, &mut places.spans);
+    let best = best_of_all(search, instance, seq, job, &mut places.spans);
     let spans = &places.spans[..seq.len() + 1];
     choose(instance, &mut places.heads, spans, best, seq, job, options)
 }
@@ -239,54 +229,20 @@ fn find_place(
 /// Inserts a job at its best place, and returns the place and the makespan.
 #[inline(always)]
 pub(crate) fn put(
+    work: &mut Work,
     instance: &Instance,
-    search: &mut Search,
-    places: &mut Places,
-    seq: &mut Seq,
     options: &Options,
     job: usize,
 ) -> Placed<u64>
-    requires search { IsSearchOf instance.now.shop search.old }
-    requires places { IsPlacesFor instance.now.shop places.old }
-    requires size { seq.old.size ≡ instance.now.shop.jobs }
-    requires held { options.now.held ≤ length seq.old.jobs }
+    requires work { IsWorkFor instance.now.shop work.old }
+    requires held { options.now.held ≤ length work.old.seq.jobs }
     requires job { job < instance.now.shop.jobs }
-    requires absent { Contains seq.old.jobs job → ⊥ }
-    ensures chosen { result.place ≡ chosen instance.now.shop options.now seq.old.jobs job }
-    ensures from { options.now.held ≤ result.place }
-    ensures within { result.place ≤ length seq.old.jobs }
-    ensures jobs { seq.new ≡ record seq.old { jobs = insert seq.old.jobs result.place job } }
-    ensures span { result.span ≡ makespan instance.now.shop seq.new.jobs }
-    ensures search { IsSearchOf instance.now.shop search.new }
-    ensures places { IsPlacesFor instance.now.shop places.new }
+    requires absent { Contains work.old.seq.jobs job → ⊥ }
+    ensures place { IsPlaceFor instance.now.shop options.now work.old.seq.jobs job result.place result.span }
+    ensures jobs { work.new.seq ≡ record work.old.seq { jobs = insert work.old.seq.jobs result.place job } }
+    ensures work { IsWorkAfter instance.now.shop work.old work.new }
 {
-    let best = find_place(instance, search, places, seq, options, job);
-    seq.insert_at(best.place, job);
+    let best = find_place(work, instance, options, job);
+    work.seq.insert_at(best.place, job);
     best
-}
-
-/// The makespan of a sequence: that with its last job at the end of the others.
-pub(crate) fn span_of(
-    instance: &Instance,
-    search: &mut Search,
-    places: &mut Places,
-    seq: &mut Seq,
-) -> u64
-    requires search { IsSearchOf instance.now.shop search.old }
-    requires places { IsPlacesFor instance.now.shop places.old }
-    requires size { seq.old.size ≡ instance.now.shop.jobs }
-    ensures span { result ≡ makespan instance.now.shop seq.old.jobs }
-    ensures jobs { seq.new ≡ seq.old }
-    ensures search { IsSearchOf instance.now.shop search.new }
-    ensures places { IsPlacesFor instance.now.shop places.new }
-{
-    let len = seq.len();
-    if len == 0 {
-        return 0;
-    }
-    let last = len - 1;
-    let job = seq.remove_at(last);
-    let _best = best_of_all(instance, search, seq, job, &mut places.spans);
-    seq.insert_at(last, job);
-    places.spans[last]
 }

@@ -6,7 +6,10 @@ use Rattle.rand_pcg.specs.Lcg.{Lcg, advance}
 use Rattle.rand_pcg.specs.Pcg.{multiplier_64, pcg32_of_seed}
 use Rattle.pfs_base.specs.FlowShop.{FlowShop}
 use Rattle.pfs_base.specs.Paths.{makespan}
+use Rattle.pfs_insert.specs.Insertion.{makespan_with}
 use Rattle.pfs_order.specs.Sequence.{IsSequence, Sequence}
+use Rattle.pfs_iterate.specs.Iterated.{chosen}
+use Rattle.pfs_iterate.specs.declared.options.Options.{Options}
 
 -- the generator of a seed after a number of rounds of `each` words
 abbrev pub generator : ℕ → ℕ → ℕ → Lcg
@@ -29,8 +32,8 @@ abbrev pub ranks_without : ℕ → List ℕ → List ℕ
 ranks_without number ranks = map (lowered number) ranks
 
 -- the number of a job among all, where this is its number among all but one
-abbrev pub raised : ℕ → ℕ → ℕ
-raised one job = if nat_le one job then suc job else job
+abbrev pub renumbered : ℕ → ℕ → ℕ
+renumbered one job = if nat_le one job then suc job else job
 
 -- a place from `held` on and below `count`, whose value is at most that of each of these places, and less than that of
 -- each of these before it and of each after `last`
@@ -50,6 +53,13 @@ pub record IsBestFrom (value tie : ℕ → ℕ) (held count place : ℕ) : Type 
   pub least : (other : ℕ) → held ≤ other → other < count → value place ≤ value other
   pub tied : (other : ℕ) → held ≤ other → other < count → value other ≡ value place → tie place ≤ tie other
   pub first : (other : ℕ) → held ≤ other → other < place → value other ≡ value place → tie place < tie other
+
+-- the chosen place for a job in a sequence, and the makespan with the job there
+pub record IsPlaceFor (shop : FlowShop) (options : Options) (jobs : List ℕ) (job place span : ℕ) : Type 0 where
+  pub place_is : place ≡ chosen shop options jobs job
+  pub from : options.held ≤ place
+  pub within : place ≤ length jobs
+  pub spanned : span ≡ makespan_with shop jobs job place
 
 -- an order of all jobs, and its makespan
 pub record IsMeasured (shop : FlowShop) (order : List ℕ) (span : ℕ) : Type 0 where

@@ -10,7 +10,10 @@ import re
 NAME = re.compile(r"(.*?)(?:\.[a-z][a-z0-9]*)?(?:[: ]([0-9]+))?", re.DOTALL)
 # The instances of Vallada, Ruiz and Framinan (2015), whose files are named in several ways.
 VFR = re.compile(r"(?:vfr|vrf)([0-9]+_[0-9]+_[0-9]+)(?:_gap)?")
-TAILLARD, TAILLARD_BLOCK = re.compile("ta([0-9]{1,3})"), re.compile("tai([0-9]{1,3})_([0-9]{1,2}):([0-9]{1,2})")
+TAILLARD = re.compile(r"ta[ _.:-]?([0-9]{1,3})|tai[ _.:-]?([0-9]{3})")
+TAILLARD_BLOCK = re.compile("tai([0-9]{1,3})_([0-9]{1,2}):([0-9]{1,2})")
+# A benchmark, the numbers of jobs and machines, and the number of the instance, as in 20x5-1 and VFR20-5-1.
+SIZED = re.compile(r"([a-z]*)[ _.-]?([0-9]{1,4}) ?[x\u00d7_-] ?([0-9]{1,3}) ?[_.:-][-: ]{0,2}0*([0-9]{1,4})")
 
 
 def key_of(name: str, block: str = "") -> str:
@@ -18,13 +21,17 @@ def key_of(name: str, block: str = "") -> str:
 
     >>> key_of("a/VFR10_5_1_Gap.txt"), key_of("tai20_5.txt 3"), key_of("tai20_5", "3"), key_of("Ta1")
     ('vfr10_5_1', 'tai20_5:3', 'tai20_5:3', 'ta001')
+    >>> key_of("Ta 001"), key_of("tai001"), key_of("C:\\\\set\\\\TA-12.txt"), key_of("tai20")
+    ('ta001', 'ta001', 'ta012', 'tai20')
     """
-    match = NAME.fullmatch(name.strip().replace("\\", "/").rpartition("/")[2].casefold())
+    text = name.strip().replace("\\", "/").rpartition("/")[2].casefold()
+    match, whole = NAME.fullmatch(text), TAILLARD.fullmatch(re.sub(r"\.[a-z][a-z0-9]*$", "", text))
     assert match is not None
-    number = block.strip() or match[2]
-    key, taillard = VFR.sub(r"vfr\1", match[1]) if VFR.fullmatch(match[1]) else match[1], TAILLARD.fullmatch(match[1])
+    taillard = whole or TAILLARD.fullmatch(match[1])
+    number = block.strip() or (match[2] or "") * (whole is None)
+    key = VFR.sub(r"vfr\1", match[1]) if VFR.fullmatch(match[1]) else match[1]
     if taillard:
-        key = f"ta{int(taillard[1]):03}"
+        key = f"ta{int(taillard[1] or taillard[2]):03}"
     # A number may be too long for `int`.
     return f"{key}:{number.lstrip('0') or 0}" if number and number.isdecimal() else key
 
@@ -36,12 +43,23 @@ def taillard_number(key: str) -> int:
     (120, 10, 0, 0)
     """
     if match := TAILLARD.fullmatch(key):
-        return int(match[1]) if int(match[1]) <= 120 else 0
+        number = int(match[1] or match[2])
+        return number if number <= 120 else 0
     if match := TAILLARD_BLOCK.fullmatch(key):
         jobs, machines, block = map(int, match.groups())
         numbers = [number for number, row in enumerate(taillard_rows(), 1) if row[1:3] == (jobs, machines)]
         return numbers[block - 1] if 1 <= block <= len(numbers) else 0
     return 0
+
+
+def sized(key: str) -> tuple[str, int, int, int] | None:
+    """Return the benchmark, jobs, machines and number that a name gives, or None.
+
+    >>> sized("vfr20_5_1"), sized("20x5-01"), sized("vfr20"), sized("20x5:3")
+    (('vfr', 20, 5, 1), ('', 20, 5, 1), None, ('', 20, 5, 3))
+    """
+    match = SIZED.fullmatch(key.removesuffix("_gap"))
+    return (match[1], int(match[2]), int(match[3]), int(match[4])) if match else None
 
 
 def canonical(name: str) -> str:

@@ -33,6 +33,7 @@ MOST_UNPACKED = 2**28
 MOST_CELLS, MOST_IN_ROW, MOST_TAGS, MOST_STYLES = 3_000_000, 16_384, 500_000, 100_000
 TAG = re.compile(rb"<(?:\w+:)?(c|row)[\s/>]")
 FORMULA = re.compile(rb"<(?:\w+:)?f[\s/>]")
+MERGED = re.compile(rb'<(?:\w+:)?mergeCell\s+ref="([A-Z]{1,3}[0-9]{1,7}:[A-Z]{1,3}[0-9]{1,7})"')
 SEPARATED = re.compile(r"[0-9]+(?:[.,][0-9]+)+", re.ASCII)
 # The sheet with options of `pfs-plan`, which is no table.
 OPTIONS_SHEET = "pfs"
@@ -90,6 +91,14 @@ class Workbook:
             raise TableFault(path, line, column, f"has a formula without a value{more}: open the workbook in a "
                                                  "spreadsheet and save it")
         return text
+
+    def merged(self, name: str) -> list[tuple[int, int, int, int]]:
+        """Return the merged cells of a sheet: of each range its first row and column and its last ones."""
+        content = self.book._archive.read(self.book[name]._worksheet_path)
+        bounds = self.openpyxl.utils.cell.range_boundaries
+        with self.faults():
+            found = (bounds(ref.decode()) for ref in MERGED.findall(content)[:MOST_TAGS])
+            return [(top, left, bottom, right) for left, top, right, bottom in found]
 
     def text_of_rows(self, sheet: Any, most_rows: int, rows_hidden: Collection[int],
                      columns_hidden: Collection[int]) -> str:

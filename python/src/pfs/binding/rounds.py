@@ -44,7 +44,8 @@ class RoundsOptions(ctypes.Structure):
 class IterateOptions(ctypes.Structure):
     """Which rounds `pfs_iterate` makes."""
     _fields_ = [("seed", c_uint64), ("take", c_size_t), ("held", c_size_t), ("first", c_uint32), ("count", c_uint32),
-                ("partial", c_uint32), ("passes", c_uint32), ("ties", c_uint32)]
+                ("partial", c_uint32), ("passes", c_uint32), ("ties", c_uint32), ("accept", ctypes.POINTER(c_uint32)),
+                ("accept_length", c_size_t), ("stay", ctypes.c_char_p), ("stay_length", c_size_t)]
 
 
 class Iterating(NamedTuple):
@@ -153,9 +154,10 @@ class Rounds:
             self.call("pfs_rounds", byref(options), part.order, length, byref(part.makespan), byref(part.cells))
             return
         partial, ties, accept, held, stay = self.more
-        longer = IterateOptions(part.seed, self.take, held, first, count, partial, self.passes, ties)
-        self.call("pfs_iterate", byref(longer), accept, c_size_t(len(accept)), stay, c_size_t(len(stay)), part.current,
-                  length, byref(c_uint64()), part.order, length, byref(part.makespan))
+        longer = IterateOptions(part.seed, self.take, held, first, count, partial, self.passes, ties, accept,
+                                len(accept), stay, len(stay))
+        self.call("pfs_iterate", byref(longer), part.current, length, byref(c_uint64()), part.order, length,
+                  byref(part.makespan))
 
     def keep(self, part: Part) -> None:
         """Make this part the last one."""

@@ -18,7 +18,7 @@ PROGRAMS = f"{os.environ.get('PATH', os.defpath)}:{os.path.dirname(os.path.abspa
 
 # Of each command its module, which has a function of its name, and what it does.
 COMMANDS = {
-    "taillard": ("stage", "Writes the 120 instances of Taillard into a folder."),
+    "taillard": ("folders", "Writes the 120 instances of Taillard into a folder."),
     "run": ("run", "Makes the runs of a plan with GNU parallel, which gets the further options."),
     "slurm": ("run", "Makes the runs of a plan on a Slurm cluster, as one array; sbatch gets the further options."),
     "status": ("run", "Writes the CSV of the runs that have ended so far, while the others continue."),
@@ -38,11 +38,15 @@ ARGUMENTS: list[tuple[str, str, dict[str, Any]]] = [
     ("run", "--sshloginfile", {"metavar": "FILE", "help": "a file with the machines for GNU parallel"}),
     ("slurm", "--tasks", {"metavar": "N", "type": number(1, 10 ** 9), "help": "the most tasks of the array"}),
     ("slurm", "--dry-run", {"action": "store_true", "help": "print the call of sbatch"}),
-    ("audit", "table", {"metavar": "TABLE", "help": "a CSV or workbook with the columns instance (or problem), "
-                                 "makespan (or Cmax) and order (or sequence, permutation, Reihenfolge)"}),
+    ("audit", "table", {"metavar": "TABLE", "help": "a CSV, workbook or LaTeX file with the columns instance (or "
+                                 "problem), makespan (or Cmax) and order (or sequence, permutation, Reihenfolge), or a "
+                                 "folder or zip archive of such files or of orders"}),
     ("audit", "--instances", {"metavar": "FOLDER", "type": pathlib.Path, "help": "the folder of the instance files"}),
     ("audit", "--layout", {"choices": ("taillard", "orlib", "matrix"), "help": "the layout of all files"}),
     ("audit", "--first", {"type": int, "choices": (0, 1), "help": "the number of the first job in all orders"}),
+    ("audit", "--column", {"metavar": "ROLE=NAME", "action": "append", "default": [],
+                           "help": "the name of a column, as order=\"Best found\""}),
+    ("audit", "--dry-run", {"action": "store_true", "help": "print how each column and instance is read"}),
     ("audit", "--csv", {"metavar": "CSV", "help": "write the verdict on each order"}),
     ("report", "--format", {"choices": ("png", "svg", "pdf"), "default": "png", "help": "the format of the plots"}),
     ("report", "--reference", {"metavar": "CSV", "help": "a CSV with instance, makespan and source"}),

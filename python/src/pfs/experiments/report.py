@@ -2,6 +2,7 @@
 deviations (RPD). Runs that failed are only counted."""
 from __future__ import annotations
 
+import functools
 import itertools
 import math
 import os
@@ -21,9 +22,11 @@ from matplotlib.ticker import NullLocator
 from pfs.base.atomic import atomic_write
 from pfs.base.benchmarks import canonical, taillard_rows
 from pfs.base.cells import text_cell
+from pfs.base.version import VERSION
 from pfs.experiments import ExperimentError, Options, csv_text, listed, plain, statistics
-from pfs.experiments.folders import check_output, write_text
-from pfs.experiments.plan import MOST_MAKESPAN, reference_for, reference_of, rows_of
+from pfs.experiments.folders import check_output, folder_of, write_text
+from pfs.experiments.plan import MOST_MAKESPAN, Row, reference_for, reference_of, rows_of
+from pfs.experiments.run import path_cell, proofs_of
 from pfs.experiments.statistics import SETTING, SIZE, setting_names, size_name
 from pfs.schedules.drawing import picture_of
 
@@ -70,7 +73,7 @@ def report(args: Options) -> int:
     means = [path for path in args.csv if "rpd" in (columns := rows_of(path, [])[0]) and "instance" not in columns]
     if len(means) == len(args.csv):
         raise ExperimentError("published means are columns beside the runs of another CSV")
-    runs, note = read([path for path in args.csv if path not in means], args.reference)
+    runs, note, basis = read([path for path in args.csv if path not in means], args.reference)
     done = runs.dropna(subset=["makespan"])
     shared, lacking = in_common(done[done["rpd"].notna()])
     compared = statistics.compared(done)
@@ -79,7 +82,9 @@ def report(args: Options) -> int:
     if done.empty:
         print("pfs-experiments report: no run succeeded: nothing to plot", file=sys.stderr)
         return 1
-    best = done[done["order"] != ""].sort_values(["instance", "makespan"]).drop_duplicates("instance")
+    best = pd.concat([done[done["order"] != ""], proved_orders(done)]).sort_values(["instance", "makespan"],
+                                                                                  kind="stable")
+    best = best.drop_duplicates("instance")
     for name, table in (("instances", by_instance(done)), ("best", best[["instance", "method", "makespan", "order"]])):
         if len(table):
             write_text(args.folder / f"{name}.csv", csv_of(cells_of(table)))
@@ -88,7 +93,7 @@ def report(args: Options) -> int:
         if len(table):
             texts.append(write_table(args.folder / name, table, text))
     if len(shared):
-        write_sizes(shared, [*map(published, means)], args.folder, lacking)
+        write_sizes(shared, [*map(published, means)], args.folder, lacking, basis)
     elif lacking:
         print(f"pfs-experiments report: no table of sizes: {plain(lacking)}", file=sys.stderr)
     plot(done, shared, args.folder, args.format, args.width, args.dpi, not args.no_title)
@@ -98,17 +103,24 @@ def report(args: Options) -> int:
 
 # Reading
 
-def read(paths: list[str], reference_path: str | None) -> tuple[pd.DataFrame, str]:
-    """Returns the runs of all CSVs with their RPD, and a note on their reference. Unknown values of a setting are -1,
-    other ones NaN. The size of an instance may come from any of the CSVs."""
+def proved_orders(done: pd.DataFrame) -> pd.DataFrame:
+    """Returns the orders that `prove` has found next to the CSVs, audited, as runs of their own."""
+    rows = [{"instance": instance, "path": path, "line": "", "method": f"proved by pfs {VERSION}",
+             "makespan": str(proof["makespan"]), "order": f"{folder_of(path).name}/{proof['order']}", "given": name}
+            for path, name, instance in dict.fromkeys(zip(done["path"], done["given"], done["instance"]))
+            for proof in [proofs_by(path).get(name, {})] if proof.get("order")]
+    orders, _ = orders_of([row | {"instance": row["given"]} for row in rows]) if rows else ([], [])
+    return pd.DataFrame([row | {"order": order, "makespan": float(row["makespan"])} for row, order in zip(rows, orders)
+                         if order])
+
+
+def read(paths: list[str], reference_path: str | None) -> tuple[pd.DataFrame, str, str]:
+    """Returns the runs of all CSVs with their RPD, a note on their reference, and which it is. Unknown values of a
+    setting are -1, other ones NaN. The size of an instance may come from any of the CSVs."""
     stems = [pathlib.Path(path).stem for path in paths]
     runs = pd.concat([read_one(path, path if stems.count(stem) > 1 else stem) for path, stem in zip(paths, stems)],
                      ignore_index=True)
-    try:
-        from pfs.experiments.audit import orders_of
-        runs["order"] = orders_of(runs["row"].tolist())
-    except ImportError:  # no library, and no audit
-        runs["order"] = ""
+    runs["order"], runs["own_bound"] = orders_of(runs["row"].tolist())
     runs["audited"] = runs["order"] != ""
     lasts = runs["instance"].map(canonical)
     if len(paths) > 1 and runs["instance"].groupby([runs["method"], lasts]).nunique().max() == 1:
@@ -116,8 +128,11 @@ def read(paths: list[str], reference_path: str | None) -> tuple[pd.DataFrame, st
     runs[SIZE] = runs[SIZE].fillna(runs.groupby("instance")[SIZE].transform("first"))
     taillards = taillards_of(runs)
     runs[SIZE] = runs[SIZE].fillna(taillards[SIZE])
+    proofs = [proofs_by(path).get(name, {}) for path, name in zip(runs["path"], runs["given"])]
+    runs["proved"] = [float(proof.get("bound", "nan")) for proof in proofs]
+    runs["optimum"] = runs["proved"].where([proof.get("bound") == proof.get("makespan") for proof in proofs])
     check_bounds(runs, taillards["bound"])
-    runs["optimal"] = runs["makespan"] == runs[["bound", "proved_bound"]].max(axis=1)
+    runs["optimal"] = runs["makespan"] == runs[["own_bound", "proved"]].max(axis=1)
     runs["reference"], basis = references(runs, taillards["best"], reference_path)
     rpds = 100 * (runs["makespan"] - runs["reference"]) / runs["reference"]
     runs["rpd"] = rpds.mask(runs["makespan"] == runs["reference"], 0).replace(float("inf"), float("nan"))
@@ -130,7 +145,22 @@ def read(paths: list[str], reference_path: str | None) -> tuple[pd.DataFrame, st
     if len(below):
         names = [f"{markdown(name)} {span:.15g} ({reference:.0f})" for name, span, reference in below.itertuples()]
         note += f"\nBelow the reference: {listed(names)}."
-    return runs.fillna(dict.fromkeys(GROUP, -1)), note
+    return runs.fillna(dict.fromkeys(GROUP, -1)), note, basis
+
+
+def orders_of(rows: list[Row]) -> tuple[list[str], list[float]]:
+    """Returns the audited orders and the bounds of rows; none without the library."""
+    try:
+        from pfs.experiments.audit import orders_of
+    except ImportError:
+        return [""] * len(rows), [float("nan")] * len(rows)
+    return orders_of(rows)
+
+
+@functools.cache
+def proofs_by(path: str) -> dict[str, Any]:
+    """Returns what `prove` has proved next to a CSV, by the instances' names in it."""
+    return {path_cell(name): {**proof} for name, proof in proofs_of(folder_of(path)).items()}
 
 
 def published(path: str) -> pd.DataFrame:
@@ -146,7 +176,8 @@ def read_one(path: str, name: str) -> pd.DataFrame:
     read = pd.DataFrame({**usual, **row, "path": path, "line": str(line)}
                         for line, row in enumerate(rows_of(path, ["instance", "makespan"]), 2))
     read.loc[read["status"].ne("ok") | read["makespan"].eq(""), ["makespan", "cells", "gap_percent", "seconds"]] = ""
-    runs = read[["instance", "seed"]].assign(method=read["method"].replace("", name), row=read.to_dict("records"))
+    runs = read[["instance", "seed", "path"]].assign(given=read["instance"], method=read["method"].replace("", name),
+                                                     row=read.to_dict("records"))
     runs = runs.join(numbers_in(read, list(GREATEST), path))
     runs["way"] = [way_of(*row) for row in zip(read["trajectory"], runs["makespan"], read["line"], read["path"])]
     runs.loc[runs["time_factor"].notna(), "rounds"] = float("nan")
@@ -187,7 +218,7 @@ def taillards_of(runs: pd.DataFrame) -> pd.DataFrame:
 
 def check_bounds(runs: pd.DataFrame, taillards: pd.Series) -> None:
     """Rejects a makespan below the bound that a CSV has for its instance, or that of Taillard's instance."""
-    stated = runs[["bound", "proved_bound"]].max(axis=1).groupby(runs["instance"]).transform("max")
+    stated = runs[["bound", "proved_bound", "proved"]].max(axis=1).groupby(runs["instance"]).transform("max")
     bounds = pd.concat([stated, taillards], axis=1).max(axis=1)
     for _, run in runs[runs["makespan"] < bounds].iterrows():
         raise ExperimentError(f"{run['method']}: the makespan {run['makespan']:.0f} of {run['instance']} is below the "
@@ -209,13 +240,15 @@ def references(runs: pd.DataFrame, taillards: pd.Series, path: str | None) -> tu
     done = runs[runs["makespan"].notna()]
     stated = reference_of(path) if path else {}
     kinds = pd.DataFrame({
+        f"the optimum that pfs {VERSION} has proved": done.groupby("instance")["optimum"].transform("first"),
         f"the makespan in {path}": done["instance"].map({name: found[0] for name in done["instance"].unique()
                                                          for found in [reference_for(stated, name)] if found}),
         "the makespan in the column `reference`": done.groupby("instance")["reference"].transform("first"),
         "the best known makespan of Taillard's instance": taillards[done.index]}, dtype=float)
-    found, given = kinds.bfill(axis=1).iloc[:, 0], kinds.notna()
-    used = (given & (given.cumsum(axis=1) == 1)).any()
-    used.iloc[0] |= path is not None
+    # An optimum, or else the least that is known.
+    found = kinds.iloc[:, 0].fillna(kinds.iloc[:, 1:].min(axis=1))
+    used = (kinds.eq(found, axis=0) & (kinds.eq(found, axis=0).cumsum(axis=1) == 1)).any()
+    used.iloc[1] |= path is not None
     if not used.any():
         best_of_runs = done.groupby("instance")["makespan"].transform("min")
         return best_of_runs.reindex(runs.index), "RPD: relative to the best makespan of any of these runs."
@@ -230,7 +263,7 @@ def table_of(runs: pd.DataFrame) -> pd.DataFrame:
         runs=("makespan", "count"), failed=("makespan", lambda spans: spans.isna().sum()), audited=("audited", "sum"),
         mean_rpd_percent=("rpd", "mean"), greatest_rpd_percent=("rpd", "max"), mean_gap_percent=("gap_percent", "mean"),
         greatest_gap_percent=("gap_percent", "max"), mean_seconds=("seconds", "mean"), optimal=("optimal", "sum"))
-    return table.drop(columns=[] if runs["proved_bound"].notna().any() else "optimal").reset_index()
+    return table.drop(columns=[] if runs["proved"].notna().any() else "optimal").reset_index()
 
 
 def by_instance(done: pd.DataFrame) -> pd.DataFrame:
@@ -240,27 +273,53 @@ def by_instance(done: pd.DataFrame) -> pd.DataFrame:
         mean_rpd_percent=("rpd", "mean")).reset_index()
 
 
-def write_sizes(shared: pd.DataFrame, published: list[pd.DataFrame], folder: pathlib.Path, lacking: str) -> None:
+def write_sizes(shared: pd.DataFrame, published: list[pd.DataFrame], folder: pathlib.Path, lacking: str,
+                basis: str) -> None:
     """Writes the mean RPD, a row for each size and a column for each setting, and means of the columns that have all
-    sizes."""
-    means = shared.pivot_table(index=SIZE, columns=SETTING, values="rpd")
-    means = means.set_axis(setting_names(list(means.columns)), axis=1)
+    sizes. Where there are several seeds, it is the mean of their means, with the standard deviation of these."""
+    by_seed = shared.pivot_table(index=[*SIZE, "seed"], columns=SETTING, values="rpd").groupby(level=SIZE)
+    means, spread = by_seed.mean(), by_seed.std()
+    means, spread = (each.set_axis(setting_names(list(means.columns)), axis=1) for each in (means, spread))
     for each in published:
         means = means.join(each, rsuffix=" (published)")
-    rows = [[size_name(size), *(cell("rpd", value) for value in row)]
-            for size, row in zip(means.index, means.to_numpy())]
-    rows.append(["mean", *(cell("rpd", value) for value in means.mean(skipna=False))])
     heads = ["jobs×machines", *means.columns]
-    stated = sorted(set(shared.loc[~shared["audited"], "method"]).union(*published))
-    note = " ".join(["Mean RPD, %.", *filter(None, [lacking]),
-                     *([f"Not audited, only stated: {', '.join(stated)}."] if stated else [])])
-    write_text(folder / "sizes.csv", csv_of([heads, *rows]))
+    last = ["mean", *(cell("rpd", value) for value in means.mean(skipna=False))]
+    write_text(folder / "sizes.csv", csv_of([heads, *([size_name(size), *(cell("rpd", value) for value in row)]
+                                                      for size, row in zip(means.index, means.to_numpy())), last]))
+    rows = [[size_name(size), *(with_spread(means.at[size, name], spread[name].get(size, float("nan"))
+                                            if name in spread else float("nan")) for name in means.columns)]
+            for size in means.index] + [last]
+    note = sizes_note(shared, published, lacking, basis)
     write_text(folder / "sizes.md", markdown_of([heads, *rows], markdown(note)))
     lines = [" & ".join(row) + r" \\" for row in [map(stacked, heads), *(map(latex, row) for row in rows)]]
     write_text(folder / "sizes.tex", "\n".join([
         r"% \usepackage{booktabs}", rf"\begin{{tabular}}{{l{'r' * (len(heads) - 1)}}}", r"\toprule", lines[0],
         r"\midrule", *lines[1:-1], r"\midrule", lines[-1], r"\bottomrule", r"\end{tabular}",
         rf"{{\par\footnotesize {latex(note)}\par}}", ""]))
+
+
+def with_spread(mean: float, spread: float) -> str:
+    """Returns a mean with its standard deviation, if there is one.
+
+    >>> with_spread(0.4834, 0.0376), with_spread(0.5, float("nan"))
+    ('0.483 ± 0.038', '0.500')
+    """
+    return cell("rpd", mean) + (f" ± {cell('rpd', spread)}" if spread == spread else "")
+
+
+def sizes_note(shared: pd.DataFrame, published: list[pd.DataFrame], lacking: str, basis: str) -> str:
+    """Returns what the table of sizes is of."""
+    counts = shared.groupby(SIZE)["instance"].nunique()
+    instances = (f"{counts.iloc[0]} instances of each size" if counts.nunique() == 1 else
+                 "instances: " + ", ".join(f"{size_name(size)} {count}" for size, count in counts.items()))
+    seeds = shared.loc[shared["rounds"] != 0, "seed"].nunique()
+    factors = sorted({*shared["time_factor"]} - {-1})
+    made = [instances, f"{seeds} seeds: the mean of their means ± its standard deviation" if seeds > 1 else "1 seed",
+            *([f"time factor {', '.join(f'{factor:g}' for factor in factors)}"] if factors else []), f"pfs {VERSION}"]
+    stated = sorted(set(shared.loc[~shared["audited"], "method"]).union(*published))
+    text = f"Mean RPD, %, {basis.removeprefix('RPD: ').replace('`', '')} {'; '.join(made).capitalize()}."
+    return " ".join([text, *filter(None, [lacking]),
+                     *([f"Not audited, only stated: {', '.join(stated)}."] if stated else [])])
 
 
 def write_table(path: pathlib.Path, table: pd.DataFrame, note: str) -> str:
@@ -568,6 +627,6 @@ def differences(shared: pd.DataFrame, width: float | None) -> Figure | None:
     first = shown(found["first"].iloc[0])
     figure.supxlabel(wrapped(f"RPD minus that of {first}, %" if found["first"].nunique() == 1 else
                              "RPD minus that of the first setting, %", width - 0.4))
-    figure.suptitle(wrapped("Mean differences, paired by instance and seed, with confidence intervals of 95 %",
+    figure.suptitle(wrapped("Mean differences by instance, with confidence intervals of 95 %",
                             width - 0.4))
     return figure

@@ -17,6 +17,7 @@ import signal
 import subprocess
 import sys
 from collections.abc import Container, Iterator
+from typing import Required, TypedDict
 
 from pfs.base.cells import FORMULA, text_cell
 from pfs.experiments import ExperimentError, Options, csv_text, folders, one, plain
@@ -43,6 +44,8 @@ SAME = ["instance", "method", "rounds", "time_factor", "take", "passes", "seed",
 NEEDED = ["instance", "rounds", "take", "passes", "seed", "repetition", "makespan", "bound", "status", "order"]
 # By default an array of Slurm has at most this number of tasks, and each takes at least about this number of seconds.
 MOST_TASKS, LEAST_SECONDS = 1000, 60
+# A number as pandas may write it.
+WRITTEN = re.compile(r"\A([0-9]+(?:\.[0-9]*[1-9])?)\.?0*\Z")
 # More than pfs needs for a table cell.
 SECONDS_A_CELL = 1e-9
 # A process of GNU parallel makes at most this number of runs, which take about this number of seconds, and there are
@@ -265,10 +268,42 @@ def write_csv(experiment: Experiment, csv_path: str) -> tuple[int, int]:
     return failed, left
 
 
-def proofs_of(folder: pathlib.Path) -> dict[str, int]:
-    """Returns the bounds that `prove` has proved, by the names of the instances."""
+class Proof(TypedDict, total=False):
+    """What `prove` has proved of an instance: a bound, the makespan of the shortest order that is known, and its file
+    if no run has found it. Then where the search began, for how long it took, and what it was made with."""
+    bound: Required[int]
+    makespan: Required[int]
+    order: Required[str]
+    start: str
+    seed: str
+    seconds: float
+    version: str
+    library: str
+    instance: str
+
+
+def proofs_of(folder: pathlib.Path) -> dict[str, Proof]:
+    """Returns what `prove` has proved, by the names of the instances."""
     path = folder / PROOFS
-    return {**json.loads(path.read_bytes())} if path.exists() else {}
+    if not path.exists():
+        return {}
+    try:
+        found = json.loads(path.read_bytes())
+    except ValueError:
+        found = None
+    if not isinstance(found, dict) or not all(
+            isinstance(each, dict) and [*map(type, map(each.get, ("bound", "makespan", "order")))] == [int, int, str]
+            and 0 <= each["bound"] <= each["makespan"] for each in found.values()):
+        raise ExperimentError(f"{path} is damaged: delete it, and prove again")
+    return found
+
+
+def whole(path: str, row: Row, column: str) -> int:
+    """Returns the number in a cell of a CSV, which pandas may have written as 3967.0."""
+    match = re.fullmatch(r" *([0-9]{1,18})(?:\.0*)? *", row[column])
+    if not match:
+        raise ExperimentError(f"{path}: {row['instance']}: {row[column][:40]!r} is not a whole {column}")
+    return int(match[1])
 
 
 def with_order(folder: pathlib.Path, run: Row, result: Row) -> Row:
@@ -281,7 +316,7 @@ def with_order(folder: pathlib.Path, run: Row, result: Row) -> Row:
     return result | {"order": path_cell(f"{folder.name}/orders/{path.name}")}
 
 
-def row_of(run: Row, result: Row, reference: Reference, proofs: dict[str, int]) -> Row:
+def row_of(run: Row, result: Row, reference: Reference, proofs: dict[str, Proof]) -> Row:
     """Returns the row of a run, of the columns of the CSV that have a value."""
     row = {**run, **{column: cell for column, cell in result.items() if cell}, "method": text_cell(run["method"]),
            "instance": path_cell(run["instance"]), "status": text_cell(result["status"])}
@@ -289,7 +324,7 @@ def row_of(run: Row, result: Row, reference: Reference, proofs: dict[str, int]) 
         makespan, bound = int(result["makespan"]), int(result["bound"])
         row["gap_percent"] = f"{100 * (makespan - bound) / bound:.4f}" if bound else "0.0000"
     if run["instance"] in proofs:
-        row["proved_bound"] = str(proofs[run["instance"]])
+        row["proved_bound"] = str(proofs[run["instance"]]["bound"])
     known = reference_for(reference, run["instance"])
     return row | ({"reference": str(known[0]), "source": text_cell(known[1])} if known else {})
 
@@ -326,22 +361,26 @@ def check(args: Options) -> int:
     experiment, program = folders.started(args.csv), folders.find_pfs(args.pfs)
     listed = {same({**run, "instance": path_cell(run["instance"]), "method": text_cell(run["method"])}): run
               for run in experiment.runs}
-    count = 0
+    count = others = 0
     for row in rows:
-        fault = wrong(row, program, experiment, listed.get(same(row)))
+        made = listed.get(same(row))
+        fault = wrong(args.csv, row, program, experiment, made)
         if fault:
-            count += 1
+            count, others = count + (made is not None), others + (made is None)
             print(plain(", ".join(f"{column} {row[column]}" for column in SAME if row.get(column)) + f": {fault}"))
-    print(f"{args.csv}: {len(rows)} orders audited, {count} of them wrong")
-    return 1 if count else 0
+    print(f"{args.csv}: {len(rows) - others} orders audited, {count} of them wrong"
+          + (f"; {others} rows are of no run in {experiment.folder.name}, and not audited" if others else ""))
+    return 1 if count else 2 if others else 0
 
 
 def same(row: Row) -> tuple[str, ...]:
-    """Returns what identifies a run. Runs by time have other rounds in the CSV than in the list of runs."""
-    return tuple("" if row.get("time_factor") and column == "rounds" else row.get(column, "") for column in SAME)
+    """Returns what identifies a run, with numbers as pandas may have written them. Runs by time have other rounds in
+    the CSV than in the list of runs."""
+    texts = {column: "" if row.get("time_factor") and column == "rounds" else row.get(column, "") for column in SAME}
+    return tuple(text if column in SAME[:2] else WRITTEN.sub(r"\1", text.strip()) for column, text in texts.items())
 
 
-def wrong(row: Row, program: str, experiment: Experiment, run: Row | None) -> str:
+def wrong(path: str, row: Row, program: str, experiment: Experiment, run: Row | None) -> str:
     """Returns what is wrong with a row, or an empty text."""
     folder = experiment.folder
     if run is None:
@@ -353,5 +392,5 @@ def wrong(row: Row, program: str, experiment: Experiment, run: Row | None) -> st
     done = subprocess.run(words, cwd=folder / experiment.stage, stdin=subprocess.DEVNULL, capture_output=True,
                           text=True, errors="replace")
     printed = " ".join((done.stdout + done.stderr).split()).removesuffix(" optimal")
-    expected = f"valid makespan {row['makespan']} bound {row['bound']}"
+    expected = f"valid makespan {whole(path, row, 'makespan')} bound {whole(path, row, 'bound')}"
     return "" if printed == expected else f"{row['order']}: {printed or 'no output'}, but the CSV has {expected}"

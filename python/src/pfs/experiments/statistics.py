@@ -102,8 +102,8 @@ def paired(shared: pd.DataFrame) -> pd.DataFrame:
 
 
 def differences(shared: pd.DataFrame) -> pd.DataFrame:
-    """Returns, for each size and each group of settings that can be compared, the mean difference in RPD of each
-    setting to the first one, and half the confidence interval of 95 %."""
+    """Returns, for each size and each group of settings that can be compared, the mean over the instances of the
+    difference in mean RPD of each setting to the first one, and half the confidence interval of 95 %."""
     if shared["rpd"].isna().all():
         return pd.DataFrame()
     table, rows = paired(shared), []
@@ -113,7 +113,8 @@ def differences(shared: pd.DataFrame) -> pd.DataFrame:
         for budget, group in groups.items():
             panel = ", ".join([size_name(size), *([budget_name(budget)] if len(groups) > 1 else [])])
             for setting in group[1:]:
-                each = own[setting] - own[group[0]]
+                # Seeds of an instance aren't independent.
+                each = (own[setting] - own[group[0]]).groupby(level="instance").mean()
                 half = scipy.stats.t.ppf(0.975, len(each) - 1) * each.std() / len(each) ** 0.5 if len(each) > 1 else 0
                 rows.append({"panel": panel, "first": names[group[0]], "setting": names[setting], "mean": each.mean(),
                              "half": half})

@@ -413,12 +413,10 @@ class Instance:
         """
         given, count = as_uint32_bytes(sequence, "sequence")
         more, many = as_uint32_bytes(jobs, "jobs")
-        found = np.empty(min(count + many, 2 * c.MOST_JOBS), dtype=np.uint32)
+        found = np.frombuffer(bytearray(given + bytes(len(more))), dtype=np.uint32)
         makespan = c_uint64()
-        # The form without a rule is faster.
-        rule = [rule_of(ties)] if ties != "first" else []
-        name = "pfs_construct_ties" if rule else "pfs_construct"
-        number = self._call(name, *rule, given, count, more, many, found.ctypes.data, found.size, byref(makespan))
+        number = self._call("pfs_construct_ties", rule_of(ties), more, many, found.ctypes.data, found.size,
+                            byref(makespan))
         if number:
             raise self._insertion_error(number, given, more)
         return Sequence(found.astype(np.int64), makespan.value)
@@ -449,7 +447,7 @@ class Instance:
         >>> shop.local_search(range(20), passes=None).makespan <= shop.local_search(range(20)).makespan
         True
         """
-        # The form without a rule is faster. A call of the other one ends after a pass that gains nothing.
+        # A call by a rule ends after a pass that gains nothing.
         rule = [rule_of(ties)] if ties != "first" or passes is None else []
         name = "pfs_local_search_ties" if rule else "pfs_local_search"
         counts = [c.MOST_PASSES] if passes is None else [1] * checked_int(passes, "passes", 0, c.MOST_PASSES) or [0]

@@ -4,14 +4,14 @@ use Rattle.std.proofs.lemmas.List.Filters.{length-filter_both}
 use Rattle.pfs_iterate.specs.Iterated.{is_free, movable}
 use Rattle.pfs_c.proofs.iterating.iterate_in.Goals as goal
 
-pub iterate-spans-requires-clause-options : goal.iterate-spans-requires-clause-options
-iterate-spans-requires-clause-options c =
-    let held = c.args.options.now.held in
-    let stay = c.args.stay.now in
+pub iterate-requires-clause-options : goal.iterate-requires-clause-options
+iterate-requires-clause-options c =
+    let held = c.args.options.now.rounds.held in
+    let stay = c.args.options.now.stay.now in
     let current = c.args.current.now in
     let all : length current ≡ c.args.kept.now.jobs = search rules in
     let within : held ≤ c.args.kept.now.jobs = search rules in
-    let few : c.args.options.now.take ≤ length (movable held stay current) = search rules in
+    let few : c.args.options.now.rounds.take ≤ length (movable held stay current) = search rules in
     record {
       some = search rules;
       few = omega (

@@ -1,5 +1,5 @@
-use Rattle.std.proofs.Common.{◌≡◌, ℕ, ◌+◌, ◌-◌, length, ap, sym, ◌∙◌, refl, arith}
-use Rattle.std.proofs.lemmas.List.{take_more_set}
+use Rattle.std.proofs.Common.{◌≡◌, ℕ, ◌+◌, ◌-◌, ◌≤◌, length, ap, sym, ◌∙◌, refl, arith}
+use Rattle.std.proofs.lemmas.List.{take-append-le, take-take, take_more_set}
 use Rattle.rand_core.specs.Steps.{first_words}
 use Rattle.rand_pcg.specs.Lcg.{Lcg, state_after}
 use Rattle.rand_pcg.specs.Pcg.{pcg32}
@@ -29,13 +29,21 @@ loop-place-preserved c =
       rng = ap (λ (p : ℕ × Lcg). p.1) next ∙ sym (later_more i c.args.rng.now);
     }
 
+pub returns-clause-words : goal.returns-clause-words
+returns-clause-words c =
+    let used = c.args.used in
+    let all : c.loop-place.place ≡ used = omega (arith, c.loop-place-test.false, c.loop-place.auto.place-end) in
+    let slice = c.as_mut_slice-words.ensures in
+    let long : used ≤ length c.loop-place.words =
+    omega (arith, c.requires.room, ap length slice.value, c.loop-place.auto.words) in
+    take-take used c.args.list.now.len _ (omega (arith, c.requires.room, ap length slice.value, slice.len))
+    ∙ take-append-le used c.loop-place.words _ long ∙ (rw all at c.loop-place.invariant.words)
+
 pub returns-clause-rest : goal.returns-clause-rest
 returns-clause-rest c =
-    let i = c.loop-place.place in
     let rng = c.args.rng.now in
-    let left : c.args.each - length c.loop-place.words ≡ c.args.each - i =
-    omega (arith, c.loop-place-test.false, c.loop-place.auto.place-end) in
-    let all : i + (c.args.each - i) ≡ c.args.each =
-    omega (arith, c.requires.few, c.loop-place.auto.place-end, c.loop-place.auto.words) in
-    c.advance.ensures ∙ ap (λ n. later n c.loop-place.rng) left ∙ ap (later (c.args.each - i)) c.loop-place.invariant.rng
-    ∙ sym (later-add i (c.args.each - i) rng) ∙ ap (λ n. later n rng) all
+    let used = c.args.used in
+    let end : c.loop-place.place ≡ used = omega (arith, c.loop-place-test.false, c.loop-place.auto.place-end) in
+    let all : used + (c.args.each - used) ≡ c.args.each = omega (arith, c.requires.few) in
+    c.advance.ensures ∙ ap (later (c.args.each - used)) (rw end at c.loop-place.invariant.rng)
+    ∙ sym (later-add used (c.args.each - used) rng) ∙ ap (λ n. later n rng) all

@@ -1,11 +1,18 @@
-use Rattle.std.proofs.Common.{◌≡◌, ℕ, List, ◌<◌, ◌≤◌, ◌+◌, ◌*◌, ◌++◌, [], ◌∷◌, ◌∙◌, length, get_or, sym, ap, sum_by, take_all, arith}
-use Rattle.std.proofs.lemmas.List.{length-append}
+use Rattle.std.proofs.Common.{◌≡◌, ℕ, List, ◌<◌, ◌+◌, ◌-◌, ◌*◌, ◌∙◌, refl, length, get_or, insert, ap₂, sym, sum_by, arith}
 use Rattle.pfs_base.specs.FlowShop.{FlowShop}
+use Rattle.pfs_base.specs.Heads.{head_of}
 use Rattle.pfs_base.specs.Lists.{below}
-use Rattle.pfs_iterate.specs.Iterated.{end_on}
-use Rattle.pfs_iterate.proofs.Ends.{before_short, end_before_more, end_short, later, next_end, sum_more, sum_short, sums_later}
-use Rattle.pfs_iterate.proofs.HeadRows.{end_above}
+use Rattle.pfs_base.proofs.Published.HeadRows.{head_of_before_more}
+use Rattle.pfs_iterate.proofs.Delays.{count_end, later, sum_more, sum_short, sums_later}
+use Rattle.pfs_iterate.proofs.HeadRows.{head_at, job_fits, job_head}
 use Rattle.pfs_iterate.proofs.heads.delay_at_end.Goals as goal
+
+pub end_after-end-requires : goal.end_after-end-requires
+end_after-end-requires c =
+    let at = c.loop-machine in
+    let wide = c.machines-machines.ensures in
+    job_fits c.args.instance.now.shop c.args.jobs.now c.args.rows.now c.requires.rows c.args.job (length c.args.jobs.now)
+    (omega arith) at.machine _ wide.value (rw wide.value at c.loop-machine-test.true) wide.within at.end at.invariant.end
 
 module _ (c : goal.After-end_after-end) where
   abbrev shop : FlowShop
@@ -14,58 +21,31 @@ module _ (c : goal.After-end_after-end) where
   abbrev jobs : List ℕ
   jobs = c.args.jobs.now
 
-  abbrev more : List ℕ
-  more = jobs ++ c.args.job ∷ []
+  abbrev place : ℕ
+  place = length jobs
+
+  abbrev with_job : List ℕ
+  with_job = insert jobs place c.args.job
 
   abbrev machine : ℕ
   machine = c.loop-machine.machine
 
   lt : machine < shop.machines
-  lt = omega (arith, c.machines-machines.ensures.value, c.loop-machine-test.true)
+  lt = rw c.machines-machines.ensures.value at c.loop-machine-test.true
 
-  ended_is : get_or c.args.rows.now (length jobs * c.machines-machines.result + machine) 0 ≡ end_on shop jobs machine
-  ended_is =
-      end_above shop jobs c.args.rows.now c.requires.rows (length jobs) machine c.machines-machines.result
-      c.machines-machines.ensures.value (omega arith) lt
-      ∙ ap (λ list. end_on shop list machine) (take_all (length jobs) jobs (omega arith))
-
-  few : length more ≤ shop.jobs + 1
-  few = omega (arith, c.requires.rows.few, length-append jobs (c.args.job ∷ []))
-
-  end_is : c.end_after-end.result ≡ end_on shop more machine
-  end_is = c.end_after-end.ensures
-      ∙ next_end shop jobs c.args.job machine _ c.loop-machine.end _ ended_is c.loop-machine.invariant.end
+  head_is : c.end_after-end.result ≡ head_of shop with_job (place + 1) machine
+  head_is = c.end_after-end.ensures
+      ∙ job_head shop jobs c.args.rows.now c.requires.rows c.args.job place (omega arith) machine _
+      c.machines-machines.ensures.value lt c.loop-machine.end _ c.loop-machine.invariant.end
       (c.times_of-times.ensures.each machine lt)
 
-  now_is : c.loop-machine.now + c.end_after-end.result ≡ sum_by (end_on shop more) (below (machine + 1))
-  now_is = sum_more (end_on shop more) machine c.loop-machine.now _ c.loop-machine.invariant.now end_is
+  now_is : c.loop-machine.now + c.end_after-end.result ≡ sum_by (head_of shop with_job (place + 1)) (below (machine + 1))
+  now_is = sum_more (head_of shop with_job (place + 1)) machine c.loop-machine.now _ c.loop-machine.invariant.now head_is
 
-  before_is : c.loop-machine.before + get_or c.args.rows.now (length jobs * c.machines-machines.result + machine) 0
-      ≡ sum_by (end_on shop jobs) (below (machine + 1))
-  before_is = sum_more (end_on shop jobs) machine c.loop-machine.before _ c.loop-machine.invariant.before ended_is
-
-pub end_after-end-requires : goal.end_after-end-requires
-end_after-end-requires c =
-    let shop = c.args.instance.now.shop in
-    let jobs = c.args.jobs.now in
-    let machine = c.loop-machine.machine in
-    let wide = c.machines-machines.ensures in
-    let few = c.requires.rows.few in
-    let lt : machine < shop.machines = omega (arith, wide.value, c.loop-machine-test.true) in
-    let ended = end_above shop jobs c.args.rows.now c.requires.rows (length jobs) machine _ wide.value (omega arith) lt in
-    record {
-      0 = omega (
-        arith,
-        rw (take_all (length jobs) jobs (omega arith)) at ended,
-        end_short shop wide.within jobs (omega (arith, few)) machine lt,
-      );
-      1 = omega (
-        arith,
-        c.loop-machine.invariant.end,
-        before_short shop wide.within (jobs ++ c.args.job ∷ [])
-            (omega (arith, few, length-append jobs (c.args.job ∷ []))) machine (omega (arith, lt)),
-      );
-    }
+  before_is : c.loop-machine.before + get_or c.args.rows.now (place * c.machines-machines.result + machine) 0
+      ≡ sum_by (head_of shop jobs place) (below (machine + 1))
+  before_is = sum_more (head_of shop jobs place) machine c.loop-machine.before _ c.loop-machine.invariant.before
+      (head_at shop jobs c.args.rows.now c.requires.rows place machine _ c.machines-machines.ensures.value (omega arith) lt)
 
 pub overflow_add-now : goal.overflow_add-now
 overflow_add-now c =
@@ -74,8 +54,8 @@ overflow_add-now c =
       arith,
       now_is c,
       lt c,
-      sum_short (shop c) c.machines-machines.ensures.within (more c) (few c) (machine c + 1)
-          (omega (arith, lt c)),
+      sum_short (shop c) c.machines-machines.ensures.within (with_job c) (place c + 1)
+          (omega (arith, c.requires.rows.few)) (machine c + 1) (omega (arith, lt c)),
     )
 
 pub overflow_add-before : goal.overflow_add-before
@@ -85,13 +65,13 @@ overflow_add-before c =
       arith,
       before_is c,
       lt c,
-      sum_short (shop c) c.machines-machines.ensures.within (jobs c) (omega (arith, c.requires.rows.few)) (machine c + 1)
-          (omega (arith, lt c)),
+      sum_short (shop c) c.machines-machines.ensures.within (jobs c) (place c) (omega (arith, c.requires.rows.few))
+          (machine c + 1) (omega (arith, lt c)),
     )
 
 pub loop-machine-preserved : goal.loop-machine-preserved
 loop-machine-preserved c = record {
-  end = end_is c ∙ sym (end_before_more (shop c) (more c) (machine c));
+  end = head_is c ∙ sym (head_of_before_more (shop c) (with_job c) (place c + 1) (machine c));
   now = now_is c;
   before = before_is c;
 }
@@ -100,10 +80,25 @@ pub overflow_sub-result : goal.overflow_sub-result
 overflow_sub-result c =
     let shop = c.args.instance.now.shop in
     let jobs = c.args.jobs.now in
+    let place = length jobs in
     let invariant = c.loop-machine.invariant in
     omega (
       arith,
       invariant.now,
       invariant.before,
-      sums_later (end_on shop jobs) (end_on shop (jobs ++ c.args.job ∷ [])) c.loop-machine.machine (later shop jobs c.args.job),
+      sums_later (head_of shop jobs place) (head_of shop (insert jobs place c.args.job) (place + 1)) c.loop-machine.machine
+          (λ machine. later shop jobs c.args.job place (omega arith) machine),
     )
+
+pub returns : goal.returns
+returns c =
+    let jobs = c.args.jobs.now in
+    let at = c.loop-machine in
+    let all : at.machine ≡ c.args.instance.now.shop.machines = omega (
+      arith,
+      c.machines-machines.ensures.value,
+      c.loop-machine-test.false,
+      at.auto.machine-end,
+    ) in
+    rw (count_end jobs (length jobs) refl)
+    (ap₂ (λ now before. now - before) (rw all at at.invariant.now) (rw all at at.invariant.before))

@@ -1,11 +1,33 @@
-use Rattle.std.proofs.Common.{◌≡◌, ℕ, List, ◌<◌, ◌≤◌, ◌+◌, ◌*◌, ◌++◌, [], ◌∷◌, ◌∙◌, length, get_or, sym, sum_by, take, arith}
-use Rattle.std.proofs.lemmas.List.{length-append, length-take-le, take_more}
+use Rattle.std.proofs.Common.{◌≡◌, ℕ, List, ◌<◌, ◌≤◌, ◌+◌, ◌-◌, ◌*◌, ◌∙◌, length, get_or, insert, ap, ap₂, sym, sum_by, arith}
 use Rattle.pfs_base.specs.FlowShop.{FlowShop}
+use Rattle.pfs_base.specs.Heads.{head_of}
 use Rattle.pfs_base.specs.Lists.{below}
-use Rattle.pfs_iterate.specs.Iterated.{end_on}
-use Rattle.pfs_iterate.proofs.Ends.{before_short, end_before_more, end_short, later_before, next_end, sum_more, sum_short, sums_later}
-use Rattle.pfs_iterate.proofs.HeadRows.{end_above, end_below, few_with}
+use Rattle.pfs_base.proofs.Published.HeadRows.{head_of_before_more, heads_fit, next_head}
+use Rattle.pfs_iterate.proofs.Delays.{count_inside, later_next, next_at, sum_more, sum_short, sums_later}
+use Rattle.pfs_iterate.proofs.HeadRows.{head_after, job_fits, job_head}
 use Rattle.pfs_iterate.proofs.heads.delay_before.Goals as goal
+
+pub end_after-end-requires : goal.end_after-end-requires
+end_after-end-requires c =
+    let at = c.loop-machine in
+    let wide = c.machines-machines.ensures in
+    job_fits c.args.instance.now.shop c.args.jobs.now c.args.rows.now c.requires.rows c.args.job c.args.place
+    (omega (arith, c.requires.place)) at.machine _ wide.value (rw wide.value at c.loop-machine-test.true) wide.within at.end
+    at.invariant.end
+
+pub end_after-next_end-requires : goal.end_after-next_end-requires
+end_after-next_end-requires c =
+    let shop = c.args.instance.now.shop in
+    let jobs = c.args.jobs.now in
+    let place = c.args.place in
+    let at = c.loop-machine in
+    let wide = c.machines-machines.ensures in
+    let lt = rw wide.value at c.loop-machine-test.true in
+    let head_is = c.end_after-end.ensures
+    ∙ job_head shop jobs c.args.rows.now c.requires.rows c.args.job place (omega (arith, c.requires.place)) at.machine _
+    wide.value lt at.end _ at.invariant.end (c.times_of-times.ensures.each at.machine lt) in
+    heads_fit shop wide.within (insert jobs place c.args.job) (place + 1) (place + 2) at.machine _ at.next_end
+    (omega (arith, c.requires.place, c.requires.rows.few)) (omega arith) lt head_is at.invariant.next_end
 
 module _ (c : goal.After-end_after-next_end) where
   abbrev shop : FlowShop
@@ -17,122 +39,43 @@ module _ (c : goal.After-end_after-next_end) where
   abbrev place : ℕ
   place = c.args.place
 
-  abbrev next : ℕ
-  next = get_or jobs place 0
-
   abbrev with_job : List ℕ
-  with_job = take place jobs ++ c.args.job ∷ []
-
-  abbrev more : List ℕ
-  more = with_job ++ next ∷ []
+  with_job = insert jobs place c.args.job
 
   abbrev machine : ℕ
   machine = c.loop-machine.machine
 
   lt : machine < shop.machines
-  lt = omega (arith, c.machines-machines.ensures.value, c.loop-machine-test.true)
+  lt = rw c.machines-machines.ensures.value at c.loop-machine-test.true
 
   within : place ≤ length jobs
   within = omega (arith, c.requires.place)
 
-  few : length more ≤ shop.jobs + 1
-  few = omega (
-    arith,
-    c.requires.rows.few,
-    length-take-le place jobs within,
-    c.requires.place,
-    length-append (take place jobs) (c.args.job ∷ []),
-    length-append with_job (next ∷ []),
-  )
+  head_is : c.end_after-end.result ≡ head_of shop with_job (place + 1) machine
+  head_is = c.end_after-end.ensures
+      ∙ job_head shop jobs c.args.rows.now c.requires.rows c.args.job place within machine _
+      c.machines-machines.ensures.value lt c.loop-machine.end _ c.loop-machine.invariant.end
+      (c.times_of-times.ensures.each machine lt)
 
-  few_before : length (take (place + 1) jobs) ≤ shop.jobs + 1
-  few_before = omega (arith, length-take-le (place + 1) jobs (omega (arith, c.requires.place)), c.requires.place, c.requires.rows.few)
-
-  end_is : c.end_after-end.result ≡ end_on shop with_job machine
-  end_is = c.end_after-end.ensures
-      ∙ next_end shop (take place jobs) c.args.job machine _ c.loop-machine.end _
-      (end_above shop jobs c.args.rows.now c.requires.rows place machine c.machines-machines.result
-      c.machines-machines.ensures.value within lt) c.loop-machine.invariant.end (c.times_of-times.ensures.each machine lt)
-
-  next_is : c.end_after-next_end.result ≡ end_on shop more machine
+  next_is : c.end_after-next_end.result ≡ head_of shop with_job (place + 2) machine
   next_is = c.end_after-next_end.ensures
-      ∙ next_end shop with_job next machine _ c.loop-machine.next_end _ end_is c.loop-machine.invariant.next_end
-      (c.times_of-next_times.ensures.each machine lt)
+      ∙ next_head shop with_job (place + 1) (place + 2) machine _ c.loop-machine.next_end _ (omega arith)
+      head_is c.loop-machine.invariant.next_end
+      (c.times_of-next_times.ensures.each machine lt
+      ∙ sym (next_at shop jobs c.args.job place within place machine (omega arith)))
 
   now_is : c.loop-machine.now + c.end_after-next_end.result
-      ≡ sum_by (end_on shop more) (below (machine + 1))
-  now_is = sum_more (end_on shop more) machine c.loop-machine.now _ c.loop-machine.invariant.now next_is
-
-  ended_is : get_or c.args.rows.now (place * c.machines-machines.result + c.machines-machines.result + machine) 0
-      ≡ end_on shop (take (place + 1) jobs) machine
-  ended_is = end_below shop jobs c.args.rows.now c.requires.rows place machine c.machines-machines.result
-      c.machines-machines.ensures.value c.requires.place lt
+      ≡ sum_by (head_of shop with_job (place + 2)) (below (machine + 1))
+  now_is = sum_more (head_of shop with_job (place + 2)) machine c.loop-machine.now _
+      c.loop-machine.invariant.now next_is
 
   before_is : c.loop-machine.before
       + get_or c.args.rows.now (place * c.machines-machines.result + c.machines-machines.result + machine) 0
-      ≡ sum_by (end_on shop (take (place + 1) jobs)) (below (machine + 1))
-  before_is = sum_more (end_on shop (take (place + 1) jobs)) machine c.loop-machine.before _
-      c.loop-machine.invariant.before ended_is
-
-pub end_after-end-requires : goal.end_after-end-requires
-end_after-end-requires c =
-    let shop = c.args.instance.now.shop in
-    let jobs = c.args.jobs.now in
-    let place = c.args.place in
-    let machine = c.loop-machine.machine in
-    let wide = c.machines-machines.ensures in
-    let lt : machine < shop.machines = omega (arith, wide.value, c.loop-machine-test.true) in
-    let within : place ≤ length jobs = omega (arith, c.requires.place) in
-    let few = few_with shop jobs c.args.rows.now c.requires.rows place c.args.job within in
-    record {
-      0 = omega (
-        arith,
-        end_above shop jobs c.args.rows.now c.requires.rows place machine _ wide.value within lt,
-        end_short shop wide.within (take place jobs)
-            (omega (arith, length-take-le place jobs within, c.requires.rows.few)) machine lt,
-      );
-      1 = omega (
-        arith,
-        c.loop-machine.invariant.end,
-        before_short shop wide.within (take place jobs ++ c.args.job ∷ []) few machine (omega (arith, lt)),
-      );
-    }
-
-pub end_after-next_end-requires : goal.end_after-next_end-requires
-end_after-next_end-requires c =
-    let shop = c.args.instance.now.shop in
-    let jobs = c.args.jobs.now in
-    let place = c.args.place in
-    let machine = c.loop-machine.machine in
-    let wide = c.machines-machines.ensures in
-    let lt : machine < shop.machines = omega (arith, wide.value, c.loop-machine-test.true) in
-    let within : place ≤ length jobs = omega (arith, c.requires.place) in
-    let with_job = take place jobs ++ c.args.job ∷ [] in
-    let end_is = c.end_after-end.ensures
-    ∙ next_end shop (take place jobs) c.args.job machine _ c.loop-machine.end _
-    (end_above shop jobs c.args.rows.now c.requires.rows place machine _ wide.value within lt) c.loop-machine.invariant.end
-    (c.times_of-times.ensures.each machine lt) in
-    record {
-      0 = omega (
-        arith,
-        end_is,
-        end_short shop wide.within with_job
-            (few_with shop jobs c.args.rows.now c.requires.rows place c.args.job within) machine lt,
-      );
-      1 = omega (
-        arith,
-        c.loop-machine.invariant.next_end,
-        before_short shop wide.within (with_job ++ get_or jobs place 0 ∷ [])
-            (omega (
-              arith,
-              length-take-le place jobs within,
-              c.requires.place,
-              c.requires.rows.few,
-              length-append (take place jobs) (c.args.job ∷ []),
-              length-append with_job (get_or jobs place 0 ∷ []),
-            )) machine (omega (arith, lt)),
-      );
-    }
+      ≡ sum_by (head_of shop jobs (place + 1)) (below (machine + 1))
+  before_is = sum_more (head_of shop jobs (place + 1)) machine c.loop-machine.before _
+      c.loop-machine.invariant.before
+      (head_after shop jobs c.args.rows.now c.requires.rows place machine _
+      c.machines-machines.ensures.value c.requires.place lt)
 
 pub overflow_add-now : goal.overflow_add-now
 overflow_add-now c =
@@ -141,8 +84,8 @@ overflow_add-now c =
       arith,
       now_is c,
       lt c,
-      sum_short (shop c) c.machines-machines.ensures.within (more c) (few c) (machine c + 1)
-          (omega (arith, lt c)),
+      sum_short (shop c) c.machines-machines.ensures.within (with_job c) (place c + 2)
+          (omega (arith, c.requires.place, c.requires.rows.few)) (machine c + 1) (omega (arith, lt c)),
     )
 
 pub overflow_add-before : goal.overflow_add-before
@@ -152,14 +95,14 @@ overflow_add-before c =
       arith,
       before_is c,
       lt c,
-      sum_short (shop c) c.machines-machines.ensures.within (take (place c + 1) (jobs c)) (few_before c)
-          (machine c + 1) (omega (arith, lt c)),
+      sum_short (shop c) c.machines-machines.ensures.within (jobs c) (place c + 1)
+          (omega (arith, c.requires.place, c.requires.rows.few)) (machine c + 1) (omega (arith, lt c)),
     )
 
 pub loop-machine-preserved : goal.loop-machine-preserved
 loop-machine-preserved c = record {
-  end = end_is c ∙ sym (end_before_more (shop c) (with_job c) (machine c));
-  next_end = next_is c ∙ sym (end_before_more (shop c) (more c) (machine c));
+  end = head_is c ∙ sym (head_of_before_more (shop c) (with_job c) (place c + 1) (machine c));
+  next_end = next_is c ∙ sym (head_of_before_more (shop c) (with_job c) (place c + 2) (machine c));
   now = now_is c;
   before = before_is c;
 }
@@ -169,14 +112,25 @@ overflow_sub-result c =
     let shop = c.args.instance.now.shop in
     let jobs = c.args.jobs.now in
     let place = c.args.place in
-    let next = get_or jobs place 0 in
     let invariant = c.loop-machine.invariant in
-    let longer : take (place + 1) jobs ≡ take place jobs ++ next ∷ [] = take_more jobs place 0 c.requires.place in
     omega (
       arith,
       invariant.now,
-      rw longer at invariant.before,
-      sums_later (end_on shop (take place jobs ++ next ∷ []))
-          (end_on shop ((take place jobs ++ c.args.job ∷ []) ++ next ∷ [])) c.loop-machine.machine
-          (later_before shop (take place jobs) c.args.job next),
+      invariant.before,
+      sums_later (head_of shop jobs (place + 1)) (head_of shop (insert jobs place c.args.job) (place + 2))
+          c.loop-machine.machine (λ machine. later_next shop jobs c.args.job place (omega (arith, c.requires.place)) machine),
     )
+
+pub returns : goal.returns
+returns c =
+    let jobs = c.args.jobs.now in
+    let at = c.loop-machine in
+    let all : at.machine ≡ c.args.instance.now.shop.machines = omega (
+      arith,
+      c.machines-machines.ensures.value,
+      c.loop-machine-test.false,
+      at.auto.machine-end,
+    ) in
+    let two : c.args.place + 1 + 1 ≡ c.args.place + 2 = omega arith in
+    rw (count_inside jobs c.args.place c.requires.place, two)
+    (ap₂ (λ now before. now - before) (rw all at at.invariant.now) (rw all at at.invariant.before))

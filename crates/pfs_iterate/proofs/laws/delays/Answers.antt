@@ -1,4 +1,4 @@
-use Rattle.pfs_iterate.proofs.Ends.{delay_law}
+use Rattle.pfs_iterate.proofs.Delays.{delay_law}
 use Rattle.pfs_iterate.proofs.laws.delays.Goals as goal
 
 pub returns : goal.returns

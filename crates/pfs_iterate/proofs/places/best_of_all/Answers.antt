@@ -26,5 +26,8 @@ returns-clause-spans c place among within =
     get_or_append_left written (drop c.min-count.result c.args.spans.now) 0 place (search rules) ∙ is place (search rules)
 
 pub returns-clause-search : goal.returns-clause-search
-returns-clause-search c =
-    subst (λ (s : FlowShop). IsSearchOf s c.best-best.new.self) c.metered-bench.ensures.shop c.best-best.ensures.still
+returns-clause-search c = record {
+  still = subst (λ (s : FlowShop). IsSearchOf s c.best-best.new.self) c.metered-bench.ensures.shop c.best-best.ensures.still;
+  kept = c.best-best.ensures.kept;
+  cells = c.best-best.ensures.cells;
+}

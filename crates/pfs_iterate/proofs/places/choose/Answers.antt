@@ -1,4 +1,4 @@
-use Rattle.std.proofs.Common.{◌≡◌, ℕ, ◌+◌, ◌≤◌, List, length, get_or, refl, inl, inr, arith}
+use Rattle.std.proofs.Common.{◌≡◌, ℕ, ◌+◌, ◌≤◌, List, length, get_or, refl, sym, ◌∙◌, inl, inr, arith}
 use Rattle.std.proofs.lemmas.Bool.{ne_eqb}
 use Rattle.pfs_base.specs.FlowShop.{FlowShop}
 use Rattle.pfs_insert.specs.Insertion.{makespan_with}
@@ -27,8 +27,8 @@ module _ (shop : FlowShop) (options : Options) (jobs : List ℕ) (job : ℕ) whe
   by_nothing : (options.ties ≡ TIES_IDLE → ⊥) → (place : ℕ) → tie place ≡ 0
   by_nothing other place = rw (ne_eqb options.ties TIES_IDLE other) refl
 
-pub returns-then-options-ne-TIES_IDLE-clause-chosen : goal.returns-then-options-ne-TIES_IDLE-clause-chosen
-returns-then-options-ne-TIES_IDLE-clause-chosen c =
+pub returns-then-options-ne-TIES_IDLE-clause-place : goal.returns-then-options-ne-TIES_IDLE-clause-place
+returns-then-options-ne-TIES_IDLE-clause-place c =
     let shop = c.args.instance.now.shop in
     let options = c.args.options.now in
     let jobs = c.args.seq.now.jobs in
@@ -37,22 +37,35 @@ returns-then-options-ne-TIES_IDLE-clause-chosen c =
     let value = λ (k : ℕ). get_or spans k 0 in
     let tie = tie_break shop options.ties jobs c.args.job in
     let least = c.least_from-best.ensures.least in
-    chosen_is shop options jobs c.args.job spans best.place c.requires.spans c.requires.long
-    (elim c.then-options-ne-TIES_IDLE.either [
-      | inl other ↦ plain_best value tie options.held (length spans) best.place best.last least
-          (by_nothing shop options jobs c.args.job other)
-      | inr both ↦ alone_best value tie options.held (length spans) best.place best.last least both.1
-    ])
+    let within : best.place ≤ length jobs = omega (arith, least.within, least.last_within, c.requires.long) in
+    record {
+      place_is = chosen_is shop options jobs c.args.job spans best.place c.requires.spans c.requires.long
+          (elim c.then-options-ne-TIES_IDLE.either [
+            | inl other ↦ plain_best value tie options.held (length spans) best.place best.last least
+                (by_nothing shop options jobs c.args.job other)
+            | inr both ↦ alone_best value tie options.held (length spans) best.place best.last least both.1
+          ]);
+      from = least.from;
+      within = within;
+      spanned = c.least_from-best.ensures.span ∙ c.requires.spans best.place within;
+    }
 
-pub returns-clause-chosen : goal.returns-clause-chosen
-returns-clause-chosen c =
+pub returns-clause-place : goal.returns-clause-place
+returns-clause-place c =
     let shop = c.args.instance.now.shop in
     let options = c.args.options.now in
     let jobs = c.args.seq.now.jobs in
     let spans = c.args.spans.now in
     let value = λ (k : ℕ). get_or spans k 0 in
     let place = c.least_delay-place.result in
-    chosen_is shop options jobs c.args.job spans place c.requires.spans c.requires.long
-    (best_same value (total_delay shop jobs c.args.job) value (tie_break shop options.ties jobs c.args.job) options.held
-    (length spans) place (λ k _. refl) (λ k _. by_delay shop options jobs c.args.job c.if-options-ne-TIES_IDLE.false k)
-    c.least_delay-place.ensures.best)
+    let best = c.least_delay-place.ensures.best in
+    let within : place ≤ length jobs = omega (arith, best.within, c.requires.long) in
+    record {
+      place_is = chosen_is shop options jobs c.args.job spans place c.requires.spans c.requires.long
+          (best_same value (total_delay shop jobs c.args.job) value (tie_break shop options.ties jobs c.args.job) options.held
+          (length spans) place (λ k _. refl) (λ k _. by_delay shop options jobs c.args.job c.if-options-ne-TIES_IDLE.false k)
+          best);
+      from = best.from;
+      within = within;
+      spanned = sym c.least_delay-place.ensures.span ∙ c.requires.spans place within;
+    }

@@ -1,7 +1,7 @@
 use Rattle.std.proofs.Common.{◌≡◌, ℕ, ◌+◌, ◌<◌, ◌≤◌, length, take, get_or, ◌∙◌, refl, sym, ap, subst, arith}
 use Rattle.pfs_iterate.specs.Iterated.{total_delay}
 use Rattle.pfs_iterate.specs.Private.Steps.{IsBestFrom}
-use Rattle.pfs_iterate.proofs.Ends.{delay_in_front}
+use Rattle.pfs_iterate.proofs.Delays.{delay_in_front}
 use Rattle.pfs_iterate.proofs.Least.{best_of_all, best_same, next_better, next_no_better}
 use Rattle.pfs_iterate.proofs.places.least_delay.Goals as goal
 use Rattle.pfs_iterate.proofs.places.least_delay.Goals.{then-spans-place+then-delay-least, then-spans-place+else-delay-least, else-spans-place}

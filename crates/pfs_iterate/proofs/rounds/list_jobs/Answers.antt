@@ -4,12 +4,12 @@ use Rattle.std.proofs.lemmas.Grind.{common_steps}
 use Rattle.std.proofs.lemmas.List.{drop_more, length-append, length-drop, length-map}
 use Rattle.pfs_order.specs.Sequence.{all_jobs}
 use Rattle.pfs_search.specs.Greedy.{jobs_taken}
-use Rattle.pfs_iterate.specs.Private.Steps.{raised}
+use Rattle.pfs_iterate.specs.Private.Steps.{renumbered}
 use Rattle.pfs_iterate.proofs.Listing.{reverse_more, reversed_small, taken_first}
 use Rattle.pfs_iterate.proofs.rounds.list_jobs.Goals as goal
 
-pub raise-requires : goal.raise-requires
-raise-requires c =
+pub renumber-requires : goal.renumber-requires
+renumber-requires c =
     let size = c.args.size in
     let words = c.args.words.now in
     let left = length words - c.loop-done.done in
@@ -36,26 +36,26 @@ loop-done-preserved c =
     let word = get_or words place 0 in
     let job = word % (size - place) in
     let same : c.as_mut_slice.result.now ≡ before = c.as_mut_slice.ensures.value in
-    let moved : c.raise.new.jobs ≡ map (raised job) before = c.raise.ensures.jobs ∙ ap (map (raised job)) same in
-    let many : length c.raise.new.jobs ≡ length before = ap length moved ∙ length-map before (raised job) in
+    let moved : c.renumber.new.jobs ≡ map (renumbered job) before = c.renumber.ensures.jobs ∙ ap (map (renumbered job)) same in
+    let many : length c.renumber.new.jobs ≡ length before = ap length moved ∙ length-map before (renumbered job) in
     let all : length before ≡ vec_len c.loop-done.list = sym (ap length same) ∙ c.as_mut_slice.ensures.len in
-    let pushed : c.push_reserved.new.self.items ≡ map (raised job) before ++ job ∷ [] =
+    let pushed : c.push_reserved.new.self.items ≡ map (renumbered job) before ++ job ∷ [] =
     c.push_reserved.ensures.items
-    ∙ ap (λ list. list ++ job ∷ []) (whole (vec_len c.loop-done.list) c.raise.new.jobs before (many ∙ all) all ∙ moved) in
+    ∙ ap (λ list. list ++ job ∷ []) (whole (vec_len c.loop-done.list) c.renumber.new.jobs before (many ∙ all) all ∙ moved) in
     let few : length rest ≤ size - left = omega (arith, length-drop left words, c.requires.few) in
     let at : drop place words ≡ word ∷ rest =
     rw (drop_more words place 0 (omega arith)) (ap (λ n. word ∷ drop n words) (omega (arith, c.loop-done-test.true))) in
     let one : size - place ≡ suc (size - left) = omega (arith, c.loop-done-test.true, c.requires.few) in
     let last : length words - (done + 1) ≡ place = omega arith in
-    let first : reverse (jobs_taken (all_jobs (size - place)) (drop place words)) ≡ map (raised job) before ++ job ∷ [] =
+    let first : reverse (jobs_taken (all_jobs (size - place)) (drop place words)) ≡ map (renumbered job) before ++ job ∷ [] =
     rw (at, one, c.loop-done.invariant.items) (ap reverse (taken_first (size - left) word rest few)
-    ∙ reverse_more (raised (word % suc (size - left))) (word % suc (size - left)) (jobs_taken (all_jobs (size - left)) rest)) in
+    ∙ reverse_more (renumbered (word % suc (size - left))) (word % suc (size - left)) (jobs_taken (all_jobs (size - left)) rest)) in
     record {
       items = pushed ∙ rw last (sym first);
       long = ap length pushed ∙ omega (
         arith,
-        length-append (map (raised job) before) (job ∷ []),
-        length-map before (raised job),
+        length-append (map (renumbered job) before) (job ∷ []),
+        length-map before (renumbered job),
         c.loop-done.invariant.long,
       );
       room = search rules;

@@ -6,7 +6,6 @@ invariant_of-result c = record {
   within = search rules;
   search = search rules;
   span = λ known. absurd cc;
-  size = search rules;
   iterated = search rules;
   batch = search rules;
 }

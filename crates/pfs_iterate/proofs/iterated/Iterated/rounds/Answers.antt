@@ -4,26 +4,27 @@ use Rattle.pfs_iterate.proofs.iterated.Iterated.rounds.Goals as goal
 
 pub returns-clause-done : goal.returns-clause-done
 returns-clause-done c =
-    let gives = c.play.ensures in
-    let current = c.start.ensures.order in
-    let best = c.start-2.ensures.order in
+    let ready = c.play.ensures.ready in
+    let later = c.play.ensures.later in
+    let current = c.set.ensures.order in
+    let best = c.set-2.ensures.order in
+    let end = c.play.new.self in
     record {
-      done = rw (c.copy_order.ensures.value, c.copy_order-2.ensures.value, ← current, ← best) gives.done;
+      done = rw (c.copy_order.ensures.value, c.copy_order-2.ensures.value, ← current, ← best) c.play.ensures.done;
       current_order = rw c.copy_order.ensures.value (record {
-        all = gives.current.all;
-        distinct = subst (λ (n : ℕ). IsSequence n c.play.new.current.order) gives.current.all
-            c.copy_order.ensures.sequence;
-        front = rw (← current) gives.current_front;
+        all = ready.current.all;
+        distinct = subst (λ (n : ℕ). IsSequence n end.current.order) ready.current.all c.copy_order.ensures.sequence;
+        front = rw (← current) later.current_front;
       });
       best_order = rw c.copy_order-2.ensures.value (record {
-        all = gives.best.all;
-        distinct = subst (λ (n : ℕ). IsSequence n c.play.new.best.order) gives.best.all c.copy_order-2.ensures.sequence;
-        front = (rw current at gives.best_front) ∙ sym c.requires.front;
+        all = ready.best.all;
+        distinct = subst (λ (n : ℕ). IsSequence n end.best.order) ready.best.all c.copy_order-2.ensures.sequence;
+        front = (rw current at later.best_front) ∙ sym c.requires.front;
       });
-      current_staying = rw (c.copy_order.ensures.value, ← current) gives.current_staying;
+      current_staying = rw (c.copy_order.ensures.value, ← current) later.current_staying;
       best_staying = λ same. rw (c.copy_order-2.ensures.value, ← current)
-          (gives.best_staying (rw (current, best) same));
-      current_spanned = rw c.copy_order.ensures.value gives.current.spanned;
-      best_spanned = rw c.copy_order-2.ensures.value gives.best.spanned;
-      no_longer = rw (← c.start-2.ensures.span) gives.no_longer;
+          (later.best_staying (rw (current, best) same));
+      current_spanned = rw c.copy_order.ensures.value ready.current.spanned;
+      best_spanned = rw c.copy_order-2.ensures.value ready.best.spanned;
+      no_longer = rw (c.set-2.ensures.measured.spanned, best) at later.no_longer;
     }
