@@ -17,6 +17,7 @@ from pfs.plan.orders import order_in
 from pfs.experiments import ExperimentError
 from pfs.experiments.one import order_of
 from support import plainly
+from support.tools import csv_rows
 from test_audit import SMALL, makespan, rows_of, run
 
 HEAD = ["instance", "method", "makespan", "order"]
@@ -53,8 +54,7 @@ def test_all_sheets_that_are_tables(tmp_path: pathlib.Path, monkeypatch: pytest.
     assert "but 'some words'" in printed[2] and "no column order" in printed[3] and "is empty" in printed[4]
     assert "only its first line" in printed[5]
     assert last == "a.xlsx: 2 orders audited, 1 valid (0 optimal), 1 wrong; 1 row is unclear, and not audited"
-    assert [line.rsplit(",", 1)[1] for line in (tmp_path / "out.csv").read_text().splitlines()] == [
-        "sheet", "first", "first", "Third"]
+    assert [row["sheet"] for row in csv_rows(tmp_path / "out.csv")] == ["first", "first", "Third"]
     with pytest.warns(UserWarning) as warned:
         found = pfs.audit("a.xlsx")
     assert [str(each.message) for each in warned] == printed[2:]
@@ -109,7 +109,8 @@ def test_one_reader_of_orders(order: str, tmp_path: pathlib.Path) -> None:
 @pytest.mark.parametrize("order", [[2, 1, 3], (2.0, 1.0, 3.0), np.array([2.0, 1.0, 3.0]), np.array([2, 1, 3], np.uint8),
                                    ["J2", "J1", "J3"], pandas.Series([2, 1, 3]), iter([2, 1, 3])])
 def test_lists_of_jobs(order: Any) -> None:
-    assert pfs.audit(rows_of(order), [SMALL]) == [(0, "small", "", 10, 10, 10, True, "valid and optimal", "", "")]
+    [found] = pfs.audit(rows_of(order), [SMALL])
+    assert found[:10] == (0, "small", "", 10, 10, 10, True, "valid and optimal", "", "")
 
 
 @pytest.mark.parametrize("order", [*UNREADABLE, {2, 1, 3}, {2: 1}, b"213", [2.5, 1, 3], [True, 0, 3], [[2, 1, 3]],
@@ -127,7 +128,7 @@ def test_what_is_not_read_as_an_order(order: Any) -> None:
 @pytest.mark.parametrize("order", ["", "  ", None, float("nan"), [], pandas.NA, pandas.NaT])
 def test_rows_without_an_order_are_unclear(order: Any) -> None:
     [found] = pfs.audit(rows_of(order), [SMALL])
-    assert found == (0, "small", "", 10, None, 10, False, "unclear", "column 'order': there is no order", "")
+    assert found[:10] == (0, "small", "", 10, None, 10, False, "unclear", "column 'order': there is no order", "")
     with pytest.raises(ValueError, match="row 0, column 'order': there is no order"):
         pfs.audit(rows_of(order), [SMALL], strict=True)
 

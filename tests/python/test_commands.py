@@ -19,14 +19,15 @@ from typing import Any
 
 import pfs
 import pytest
-from pfs.commands import main as _commands
-from pfs.binding import library as _library, rounds as _rounds
-from pfs.shops import search as _search
-from pfs.files import state as _state
 from pfs.base import wording as _wording
-from pfs.commands.cli import Misused, version
+from pfs.base.checkout import version
+from pfs.binding import library as _library, rounds as _rounds
+from pfs.commands import main as _commands
+from pfs.commands.cli import Misused
+from pfs.files import state as _state
 from pfs.plan import plan
 from pfs.plan.plan import Limits
+from pfs.shops import search as _search
 from support import plainly
 from support.commands import ended, without_summary
 from support.plainly import environment

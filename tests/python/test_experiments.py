@@ -481,7 +481,7 @@ def test_bounds_are_proved_and_optima_counted(experiment: Experiment) -> None:
     others = [lines[-1].replace("shops/a:2", "x"), lines[-1].replace(",ok,out", ",no,none")]
     (experiment.folder / "out.csv").write_text("\n".join([head, *others, *lines]))
     got = experiment.script("prove", "out.csv", "--seconds", "60")
-    assert got.status == 0 and "out.csv: 2 of 2 best orders are optimal\n" in got.stderr
+    assert got.status == 0 and "out.csv: the shortest makespan of 2 of 2 instances is known\n" in got.stderr
     assert got.stdout == f"shops/a:1: 1278, optimal\nshops/a:2: {before[-1]['makespan']}, optimal\n"
     after = csv_rows(experiment.folder / "out.csv")
     bounds = {"shops/a:1": "1278", "shops/a:2": before[-1]["makespan"]}
@@ -499,7 +499,64 @@ def test_bounds_are_proved_and_optima_counted(experiment: Experiment) -> None:
     assert "the makespan 1277 of x is below the bound 1278" in experiment.script("report", "new.csv", "report").stderr
     assert "none.csv was not started: none.csv.d is missing\n" in experiment.script("prove", "none.csv").stderr
     (experiment.folder / "out.csv").write_text("\n".join([head, *lines]).replace(",1278,", ",x,"))
-    assert_refused(experiment.script("prove", "out.csv"), "out.csv: invalid literal for int() with base 10: 'x'")
+    assert_refused(experiment.script("prove", "out.csv"), "out.csv: shops/a:1: 'x' is not a whole makespan")
+
+
+def test_a_shorter_order_that_is_proved_is_kept(experiment: Experiment) -> None:
+    """It is the reference and the best order, and a later call begins with it. What isn't so is one line."""
+    shop = pfs.generate(6, 4, 4)
+    shop.write(experiment.folder / "shops" / "six", "taillard")
+    least = plainly.shortest(shop.times.tolist())
+    assert experiment.plan('instances = ["shops/six"]\nrounds = [0]\n').run().status == 0
+    [row] = csv_rows(experiment.folder / "out.csv")
+    assert int(row["makespan"]) > least
+    for _ in range(2):
+        got = experiment.script("prove", "out.csv", "--seconds", "60")
+        assert got.status == 0 and got.stdout == f"shops/six: {row['makespan']}; optimal is {least}\n"
+        proofs = json.loads((experiment.runs / "proofs.json").read_text())
+        assert (proofs["shops/six"]["bound"], proofs["shops/six"]["makespan"]) == (least, least)
+        order = pfs.read_order(experiment.runs / proofs["shops/six"]["order"])
+        assert plainly.makespan(shop.times.tolist(), order.order.tolist()) == order.makespan == least
+    file = experiment.folder / "shops" / "six"
+    assert proofs["shops/six"]["instance"] == hashlib.sha256(file.read_bytes()).hexdigest()
+    assert proofs["shops/six"]["seed"] == "0" and proofs["shops/six"]["version"] == pfs.__version__
+    assert experiment.script("report", "out.csv", "report").status == 0
+    rpd = f"{100 * (int(row['makespan']) - least) / least:.3f}"
+    assert [each["mean_rpd_percent"] for each in csv_rows(experiment.folder / "report" / "table.csv")] == [rpd]
+    for name in ("table.md", "sizes.md", "sizes.tex"):
+        text = (experiment.folder / "report" / name).read_text()
+        assert f"relative to the optimum that pfs {pfs.__version__} has proved." in text, name
+    [best] = csv_rows(experiment.folder / "report" / "best.csv")
+    assert (best["makespan"], best["method"]) == (str(least), f"proved by pfs {pfs.__version__}")
+    # What is stated is audited, and a damaged file is named.
+    text = (experiment.folder / "out.csv").read_text()
+    (experiment.folder / "out.csv").write_text(text.replace(f",{row['makespan']},", f",{least},"))
+    assert_refused(experiment.script("prove", "out.csv"), f"out.csv: shops/six: wrong makespan: states {least}, takes "
+                                                          f"{row['makespan']}")
+    for damaged in ("{", "[1]", "null", '{"shops/six": 1}', '{"shops/six": {"bound": 9, "makespan": 8, "order": ""}}'):
+        (experiment.runs / "proofs.json").write_text(damaged)
+        for command in ("prove", "status"):
+            assert_refused(experiment.script(command, "out.csv"), "out.csv.d/proofs.json is damaged: delete it, and")
+
+
+def test_a_csv_that_pandas_wrote_is_the_same(experiment: Experiment) -> None:
+    """Also with other columns. A row of no run is named, and not called wrong."""
+    assert experiment.plan('instances = ["shops/b"]\nrounds = [0, 20]\nseeds = [1]\n').run().status == 0
+    text = (experiment.folder / "out.csv").read_text()
+    head, *lines = text.splitlines()
+    at = [head.split(",").index(name) for name in ("rounds", "makespan", "bound", "seed", "take")]
+    cells = [line.split(",") for line in lines]
+    for row in cells:
+        for column in at:
+            row[column] += ".0" * (row[column] != "")
+    floats = "\n".join([f"{head},mine", *(",".join([*row, "x"]) for row in cells), ""])
+    (experiment.folder / "out.csv").write_text(floats)
+    assert experiment.script("check", "out.csv").stdout == "out.csv: 2 orders audited, 0 of them wrong\n"
+    (experiment.folder / "out.csv").write_text(floats + ",".join([*cells[1][:3], "999", *cells[1][4:], "x\n"]))
+    got = experiment.script("check", "out.csv")
+    assert got.status == 2 and "rounds 999" in got.stdout and got.stdout.endswith(
+        ": the run is not in out.csv.d\nout.csv: 2 orders audited, 0 of them wrong; 1 rows are of no run in out.csv.d, "
+        "and not audited\n")
 
 
 def test_readmes_plans_by_time(experiment: Experiment) -> None:

@@ -11,6 +11,7 @@ from collections.abc import Callable
 from typing import Any
 from unittest import mock
 
+import pfs
 import pytest
 from support.colours import least_difference
 from support.experiments import Experiment
@@ -482,8 +483,9 @@ def test_the_table_of_sizes_has_each_method_and_published_mean(report: Reported,
     assert report(PAPER + "20-0,20,5,109,part,100\n20-1,20,5,101,part,100\n").status == 0
     assert cells_of(sizes) == [["jobs×machines", "5% & more", "mine_1", "part"], ["20×5", "0.500", "1.500", "5.000"],
                                ["mean", "0.500", "1.500", "5.000"]]
-    note = ("Mean RPD, {percent}. Compared are the instances and seeds that all have: part lacks runs of 20-2, 50-0, "
-            "50-1. Not audited, only stated: 5{percent} {and} more, mine{under}1, part.")
+    note = ("Mean RPD, {percent}, relative to the makespan in the column reference. 2 instances of each size; 1 seed; "
+            f"pfs {pfs.__version__}. Compared are the instances and seeds that all have: part lacks runs of 20-2, "
+            "50-0, 50-1. Not audited, only stated: 5{percent} {and} more, mine{under}1, part.")
     assert sizes.with_suffix(".md").read_text().endswith(
         "\n" + note.format(percent="%", under="_", **{"and": r"\&"}) + "\n")
     assert "{\\par\\footnotesize " + note.format(percent=r"\%", under=r"\_", **{"and": r"\&"}) + "\\par}" in (
@@ -506,6 +508,17 @@ def test_the_table_of_sizes_has_each_method_and_published_mean(report: Reported,
                                ["50×5", "2.000", "", "1.250", "", "0.900"], ["mean", "1.250", "", "0.875", "", ""]]
     assert "Not audited, only stated: P, Q, out, paper." in sizes.with_suffix(".tex").read_text()
     assert column(folder, "best", "instances") == ["100.5", "102"]
+    # The mean over the seeds 1 and 2 of 20x5 is that of 1 and 3, of 50x5 there is one instance; its deviation.
+    assert report("instance,jobs,machines,seed,rounds,makespan,time_factor\n" + "".join(
+        f"{name},{jobs},5,{seed},,{span},2\n" for name, jobs, seed, span in (
+            ("a", 20, 1, 100), ("a", 20, 2, 103), ("b", 20, 1, 102), ("b", 20, 2, 100), ("c", 50, 1, 100),
+            ("c", 50, 2, 104)))).status == 0
+    lines = sizes.with_suffix(".md").read_text().splitlines()
+    assert lines[2:] == ["| 20×5 | 1.250 ± 0.354 |", "| 50×5 | 2.000 ± 2.828 |", "| mean | 1.625 |", "",
+                         "Mean RPD, %, relative to the best makespan of any of these runs. Instances: 20×5 2, 50×5 1; "
+                         "2 seeds: the mean of their means ± its standard deviation; time factor 2; pfs "
+                         f"{pfs.__version__}. Not audited, only stated: out."]
+    assert cells_of(sizes)[1:] == [["20×5", "1.250"], ["50×5", "2.000"], ["mean", "1.625"]]
 
 
 # The plots

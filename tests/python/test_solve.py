@@ -341,8 +341,8 @@ def test_a_second_interruption_of_a_search_keeps_its_best_order(monkeypatch: pyt
     ({"ties": "idle"}, ValueError, "ties needs method='iterated-greedy'$"),
     ({"partial": 0}, ValueError, "partial needs method='iterated-greedy'$"),
     ({"temperature": 0}, ValueError, "temperature needs method='iterated-greedy'$"),
-    ({"method": "iterated-greedy", "ties": "last"}, ValueError, "ties must be 'first' or 'idle', not 'last'$"),
-    ({"method": "iterated-greedy", "ties": 1}, TypeError, "ties must be 'first' or 'idle', not 1$"),
+    ({"method": "iterated-greedy", "ties": "none"}, ValueError, "ties must be 'first' or .*, not 'none'$"),
+    ({"method": "iterated-greedy", "ties": 1}, TypeError, "ties must be 'first' or .*, not 1$"),
     ({"method": "iterated-greedy", "partial": 101}, ValueError, "partial must be from 0 to 100, not 101$"),
     ({"method": "iterated-greedy", "temperature": -0.1}, ValueError, "temperature must be from 0 to 1,000, not -0.1$"),
     ({"method": "iterated-greedy", "temperature": 1000.1}, ValueError, "temperature must be from 0 to 1,000, not "),
@@ -472,7 +472,7 @@ TIED = ([[3, 3, 0], [2, 4, 3], [3, 2, 3], [2, 4, 1], [4, 1, 2]], [0, 1, 2, 3, 4]
 
 @given(case=plainly.shops_and_orders(5), counts=st.lists(st.integers(1, 5), min_size=1, max_size=3),
        rounds=st.integers(0, 8), seed=st.integers(0, 2**64 - 1), held=st.integers(0, 5), partial=st.integers(0, 2),
-       passes=st.integers(0, 2), ties=st.sampled_from(["first", "idle"]), temperature=st.sampled_from([0, 0.5, 3, 40]),
+       passes=st.integers(0, 2), ties=st.sampled_from([*_rounds.TIES]), temperature=st.sampled_from([0, 0.5, 3, 40]),
        moves=st.one_of(st.none(), st.sets(st.integers(0, 4))), is_longer=st.booleans(),
        chance=st.randoms(use_true_random=False))
 @example(case=TIED, counts=[7], rounds=8, seed=1, held=0, partial=0, passes=1, ties="idle", temperature=0, moves=None,

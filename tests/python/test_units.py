@@ -15,17 +15,18 @@ from unittest import mock
 import numpy as np
 import pfs
 import pytest
-from pfs.commands import cli as _cli, gantt as _gantt
-from pfs.schedules import drawing as _drawing
-from pfs.binding import library as _library
-from pfs.files import tables as _tables
-from pfs.base import workbooks as _workbooks
-from pfs.schedules.calendar import DAYS
-from pfs.commands.main import plan_words, words
-from pfs.base.names import seconds_in
+from pfs.base import checkout, workbooks as _workbooks
+from pfs.base.faults import Refused
+from pfs.base.units import seconds_in
 from pfs.base.version import VERSION
+from pfs.binding import library as _library
+from pfs.commands import cli as _cli, gantt as _gantt
+from pfs.commands.main import plan_words, words
 from pfs.experiments import ExperimentError, folders, plan, run
 from pfs.experiments.__main__ import command_line
+from pfs.files import tables as _tables
+from pfs.schedules import drawing as _drawing
+from pfs.schedules.calendar import DAYS
 from pfs.web.__main__ import words as web_words
 from support import plainly
 from support.needs import require_module
@@ -43,7 +44,7 @@ def test_a_text_is_written_or_its_stream_is_closed_for_good() -> None:
 
 
 @pytest.mark.parametrize(("error", "status", "said"), [
-    (KeyboardInterrupt(), 130, ""), (_cli.Refused("a\nb \x1b"), 2, "p: a b \\x1b!\n"),
+    (KeyboardInterrupt(), 130, ""), (Refused("a\nb \x1b"), 2, "p: a b \\x1b!\n"),
     (_cli.Misused("m"), 3, "p: m!\n"), (OSError(2, "gone", "f"), 4, "p: f: gone!\n"),
     (OSError(2, "gone", "f", None, "to"), 4, "p: to: gone!\n"),
     (OSError(2, "gone"), 4, "p: gone!\n"), (OSError("o"), 4, "p: o!\n"), (MemoryError(), 4, "p: no memory!\n"),
@@ -84,11 +85,11 @@ def test_the_help_has_no_word_that_is_nowhere_else() -> None:
 
 
 def test_the_version_of_a_checkout_names_the_commit(tmp_path: pathlib.Path, monkeypatch: pytest.MonkeyPatch) -> None:
-    module = tmp_path / "python" / "src" / "pfs" / "commands" / "cli.py"
+    module = tmp_path / "python" / "src" / "pfs" / "base" / "checkout.py"
     module.parent.mkdir(parents=True)
     module.write_text("")
-    monkeypatch.setattr(_cli, "__file__", str(module))
-    assert _cli.version() == VERSION
+    monkeypatch.setattr(checkout, "__file__", str(module))
+    assert checkout.version() == VERSION
 
     def git(*words: str) -> str:
         return subprocess.run(["git", "-C", tmp_path, "-c", "user.name=a", "-c", "user.email=a@b", *words], check=True,
@@ -98,11 +99,11 @@ def test_the_version_of_a_checkout_names_the_commit(tmp_path: pathlib.Path, monk
     git("add", "-A")
     git("commit", "-qm", "one")
     git("tag", "v9")
-    assert _cli.version() == f"{VERSION}, commit {git('rev-parse', '--short', 'HEAD')}"
+    assert checkout.version() == f"{VERSION}, commit {git('rev-parse', '--short', 'HEAD')}"
     module.write_text("# changed")
-    assert _cli.version().endswith(" with changes")
+    assert checkout.version().endswith(" with changes")
     monkeypatch.setenv("PATH", "")
-    assert _cli.version() == VERSION
+    assert checkout.version() == VERSION
 
 
 @pytest.mark.parametrize(("program", "said"), [
@@ -376,7 +377,7 @@ def served(monkeypatch: pytest.MonkeyPatch, *words: str) -> tuple[Any, Any]:
         monkeypatch.setattr(name, value)
     assert web.serve(web.words().parse_args(["--no-browser", *words])) == 0
     server.return_value.run.assert_called_once_with()
-    return made.call_args.args, server.call_args.kwargs
+    return made.call_args.args[:3], server.call_args.kwargs
 
 
 def test_the_names_and_the_proxy_of_a_server(tmp_path: pathlib.Path, monkeypatch: pytest.MonkeyPatch,

@@ -181,10 +181,10 @@ REJECTED: dict[Callable[[Any], object], list[tuple[Any, type[Exception], str]]] 
         (([1, 1], {}), ValueError, "jobs: job 1 occurs twice"),
         (({"passes": 101},), ValueError, "passes must be from 0 to 100"), (([0], 1, {}), TypeError, "positional"),
         (({"passes": True},), TypeError, "passes must be an integer"),
-        (({"ties": "last"},), ValueError, "ties must be 'first' or 'idle', not 'last'"),
+        (({"ties": "none"},), ValueError, "ties must be 'first' or 'idle', not 'none'"),
         (({"ties": 1},), TypeError, "ties must be")],
     lambda given: [SHOP.best_place([0], 1, ties=given), SHOP.insert_all([0], [1], ties=given)]: [
-        ("last", ValueError, "ties must be 'first' or 'idle', not 'last'"), (None, TypeError, "ties must be")],
+        ("none", ValueError, "ties must be 'first' or 'idle', not 'none'"), (None, TypeError, "ties must be")],
     pfs.from_frame: [(frame, TypeError, "frame must be a pandas DataFrame, not ") for frame in ([[1]], None)],
     lambda given: pfs.from_frame(pytest.importorskip("pandas").DataFrame(given[0]), decimals=given[1]): [
         (([[2.55]], 1), ValueError, "times: 25.5 at job 0, machine 0 isn't a whole number"),

@@ -16,6 +16,7 @@ import pfs
 import pytest
 from hypothesis import given
 from hypothesis import strategies as st
+from pfs.binding.rounds import TIES
 from support import plainly, second_library, second_program
 
 
@@ -297,7 +298,7 @@ def test_building_blocks(data: st.DataObject, case: tuple[plainly.Table, list[in
     backwards = plainly.schedule([row[::-1] for row in times], sequence[::-1])
     assert shop.tails(sequence).tolist() == [[end for _, end in row][::-1] for row in backwards][::-1]
     more = data.draw(st.permutations(sorted({*range(shop.jobs)} - {*sequence})))
-    rules: list[tuple[int, dict[str, Any]]] = [(0, {}), (1, {"ties": "idle"})]
+    rules: list[tuple[int, dict[str, Any]]] = [(0, {}), *((rule, {"ties": name}) for name, rule in TIES.items())]
     for rule, words in rules:
         due = sequence
         for job in more:

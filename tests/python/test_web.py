@@ -45,10 +45,7 @@ PLAN: dict[str, Any] = {"shop": SHOP, "order": ORDER, "held": 0, "calendar": DAT
 
 
 def client_of(found: searches.Searches) -> FlaskClient:
-    client = app.made({HOST, "planning.example"}, TOKEN, found).test_client()
-    # A client doesn't hold its application.
-    setattr(client, "held", client.application)
-    return client
+    return app.made({HOST, "planning.example"}, TOKEN, found).test_client()
 
 
 def client_here(found: searches.Searches) -> FlaskClient:
@@ -122,7 +119,9 @@ def test_a_stranger_computes_reads_and_ends_nothing(who: str, call: tuple[str, s
         for name in names:
             monkeypatch.setattr(kind, name, never)
     (headers, due), (method, path, body) = STRANGERS[who], call
-    got = asked(client_of(searches.Searches(1)), path, body, method, **headers)
+    # A response needs the application, which the client holds.
+    client = client_of(searches.Searches(1))
+    got = asked(client, path, body, method, **headers)
     assert (got.status_code, got.json) == (due[0], {"error": due[1]})
 
 
@@ -457,7 +456,7 @@ def test_a_server_that_is_busy_says_so(monkeypatch: pytest.MonkeyPatch) -> None:
 
 # What tells the table of SHOP from others, as a definition says it.
 NAMES = f"({(*SHOP['jobs'],)}, {(*SHOP['machines'],)}, 'h', 1)".encode()
-TABLE_OF_SHOP = hashlib.sha256(b"(4, 3)" + struct.pack("12I", *sum(SHOP["times"], [])) + NAMES).hexdigest()
+TABLE_OF_SHOP = hashlib.sha256(b"(4, 3)" + struct.pack("12I", *sum(SHOP["times"], [])) + NAMES).hexdigest()[:16]
 # The response on the plan of docs/PLAN.md.
 TOLD: dict[str, Any] = {
     "makespan": "15.5 h", "span": 155, "bound": "15.5 h", "isOptimal": True, "above": 0.0, "gone": [], "new": [],

@@ -10,6 +10,7 @@ from collections.abc import Collection, Sequence
 
 import pfs
 from hypothesis import strategies as st
+from pfs.binding.rounds import TIES
 from support import second_library, second_program
 from support.second_program import instance_of
 
@@ -91,7 +92,7 @@ def iterated(times: Table, orders: tuple[list[int], list[int]], rounds: range, *
     def is_accepted(longer: int, word: int) -> bool:
         return longer <= 0 or heat > 0 and word < math.floor(2**32 * math.exp(-longer / heat))
 
-    options = seed, take, held, rounds.start, len(rounds), partial, passes, ("first", "idle").index(ties)
+    options = seed, take, held, rounds.start, len(rounds), partial, passes, TIES[ties]
     return second_library.iterated(instance_of(times), *orders, options, is_accepted, staying)
 
 

@@ -1,5 +1,6 @@
 """The texts of the repository. Python is typed, and neither pyflakes nor shellcheck finds anything wrong in a script,
 also in one whose name has no ending. C and C++ is formatted by clang-format. All files follow .editorconfig."""
+import ast
 import functools
 import pathlib
 import re
@@ -64,6 +65,51 @@ def test_pyflakes_finds_nothing() -> None:
 @pytest.mark.parametrize("path", scripts("shell"))
 def test_shellcheck_finds_nothing(path: str) -> None:
     assert_silent([tool("shellcheck"), path])
+
+
+# The package for Python
+
+PACKAGE = TOP / "python" / "src" / "pfs"
+# Each folder with those that it may import, and the types that a module of a lower folder names.
+LAYERS = {folder: set(re.findall(r"`(\w+)/`", uses)) for folder, uses in re.findall(
+    r"^\| `(\w+)/` \|.*\|([^|]*)\|$", (TOP / "docs/ARCHITECTURE.md").read_text().partition("## The package for Python")
+    [2].partition("\n## ")[0], re.MULTILINE)}
+TYPES = {("schedules/rest.py", "pfs.shops.instance"), ("schedules/schedule.py", "pfs.shops.instance")}
+
+
+def imports_of(path: str) -> set[tuple[str, str]]:
+    """The modules that a module imports, at any time, each with a name that it takes from it."""
+    found = set()
+    for node in ast.walk(ast.parse((PACKAGE / path).read_text())):
+        if isinstance(node, ast.Import):
+            found |= {(each.name, "") for each in node.names}
+        elif isinstance(node, ast.ImportFrom):
+            base = node.module or ""
+            found |= {(f"{base}.{each.name}", "") if (PACKAGE.parent / base.replace(".", "/")).is_dir()
+                      else (base, each.name) for each in node.names}
+    return found
+
+
+@pytest.mark.parametrize("path", sorted(str(path.relative_to(PACKAGE)) for path in PACKAGE.glob("*/**/*.py")))
+def test_imports_go_down(path: str) -> None:
+    """As ARCHITECTURE.md says, with lazy imports and those for types. No name with an underscore is taken, and only
+    command lines import argparse and each other."""
+    own, above = path.split("/")[0], [*LAYERS]
+    for module, name in imports_of(path):
+        folder = module.split(".")[1] if module.startswith("pfs.") else ""
+        is_command = own == "commands" or path.endswith("__main__.py")
+        assert module != "argparse" and folder != "commands" or is_command, f"{path} imports {module}"
+        if folder and folder != own and (path, module) not in TYPES:
+            assert folder in LAYERS[own] and above.index(folder) < above.index(own), f"{path} imports {module}"
+            assert name[:1] != "_", f"{path} imports {name}"
+
+
+def test_each_folder_of_the_package_is_described_and_uses_what_it_may() -> None:
+    assert LAYERS.keys() == {path.parent.name for path in PACKAGE.glob("*/__init__.py")}
+    used = {(path.parent.name, module.split(".")[1]) for path in PACKAGE.glob("*/*.py")
+            for module, _ in imports_of(str(path.relative_to(PACKAGE))) if module.startswith("pfs.")}
+    assert {(own, other) for own, others in LAYERS.items() for other in others} <= used, "what is never imported"
+    assert TYPES <= {(path, module) for path, _ in TYPES for module, _ in imports_of(path)}
 
 
 # The rules of the editors

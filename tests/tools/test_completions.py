@@ -29,8 +29,8 @@ OFFERED = {
     "pfs-experiments run th": {"three"},
     "pfs-gantt --": {"--help", "--critical", "--bound", "--unit", "--width", "--dpi", "--title"},
     "pfs-gantt th": {"three"},
-    "pfs-web --": {"--help", "--version", "--port", "--host", "--name", "--token-file", "--proxy", "--searches",
-                   "--no-browser"},
+    "pfs-web --": {"--help", *(f"-{option}" for option in re.findall(
+        r"^\.It Fl (-[\w-]+)", MANUAL.with_name("pfs-web.1").read_text(), re.MULTILINE))},
     "pfs-plan --s": {"--seconds", "--seed", "--sheet", "--shift", "--schedule"},
     "pfs-plan --decimal=": {"point", "comma"}, "pfs-plan --method ": {"solve", "iterated-greedy"},
 }

@@ -11,6 +11,7 @@ use Rattle.pfs_base.proofs.Published.Heads.{head, head_step, makespan_is}
 use Rattle.pfs_order.specs.Sequence.{IsSequence}
 use Rattle.pfs_order.proofs.Published.Sequences.{Contains-all}
 use Rattle.pfs_audit.specs.Bound.{least, time_on, machine_bound, BoundLaw}
+use Rattle.pfs_audit.proofs.Published.LeastTimes.{head_along, least-range-le}
 use Rattle.pfs_audit.proofs.Published.Orders.{sum_by-order, sum_by-all_rows}
 use Rattle.pfs_audit.proofs.Published.Ranges.{sum_by-range-suc, sum_by-below-suc, greatest-range-more, least-range-more}
 use Rattle.pfs_audit.proofs.Published.Ranges.{total_of-is}
@@ -24,16 +25,6 @@ greatest-range-le f (suc n) limit small =
     let here = small n (omega arith) in
     omega arith
 
-least-range-le : (f : ℕ → ℕ) (n x : ℕ) → x < n → least (map f (range_with_len 0 n)) ≤ f x
-least-range-le f zero x small = absurd (omega arith)
-least-range-le f (suc zero) x small = let first : x ≡ 0 = omega arith in rw first (omega arith)
-least-range-le f (suc (suc n)) x small =
-    let more = rw add-one at (least-range-more f (suc n) (omega arith)) in
-    elim (cases_lt x (suc n)) [
-      | inl before ↦ let rest = least-range-le f (suc n) x before in omega arith
-      | inr after ↦ let last : x ≡ suc n = omega arith in rw last (omega arith)
-    ]
-
 module _ (weigh : ℕ → ℕ → ℕ) where
   -- the times along a row are at most the head at their end
   row_le_head : (row machine : ℕ) → sum_by (weigh row) (range_with_len 0 (suc machine)) ≤ head weigh (suc row) machine
@@ -43,18 +34,6 @@ module _ (weigh : ℕ → ℕ → ℕ) where
       let step = head_step weigh row (suc machine) in
       let more = sum_by-below-suc (weigh row) (suc machine) in
       omega arith
-
-  -- the head at a machine and the times further along its row
-  pub head_along : (row machine many : ℕ) →
-      head weigh (suc row) machine + sum_by (weigh row) (range_with_len (machine + 1) many)
-      ≤ head weigh (suc row) (machine + many)
-  head_along row machine zero = rw (add-zero machine) (omega arith)
-  head_along row machine (suc many) =
-      let e : machine + 1 + many ≡ suc (machine + many) = omega arith in
-      let before = head_along row machine many in
-      let step = head_step weigh row (suc (machine + many)) in
-      let more = rw e at (sum_by-range-suc (weigh row) (machine + 1) many) in
-      rw (add-suc machine many) (omega arith)
 
   -- the head at a row and the times further down its machine
   pub head_down : (row machine many : ℕ) →
@@ -98,7 +77,7 @@ module _ (weigh : ℕ → ℕ → ℕ) where
       let first = row_le_head 0 machine in
       let more = sum_by-below-suc (weigh 0) machine in
       let down = head_below machine row in
-      let along = rw last at (head_along row machine (machines - (machine + 1))) in
+      let along = rw last at (head_along weigh row machine (machines - (machine + 1))) in
       omega arith
 
 module _ (shop : FlowShop) (order : List ℕ) (sequence : IsSequence shop.jobs order)

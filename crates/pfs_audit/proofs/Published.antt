@@ -2,3 +2,4 @@
 pub mod Orders
 pub mod Ranges
 pub mod SumLemmas
+pub mod LeastTimes

@@ -6,7 +6,8 @@ use Rattle.pfs_base.specs.Paths.{makespan, operation}
 use Rattle.pfs_base.proofs.Published.Heads.{head, head_before, head_step, head_before_more, heaviest_is, makespan_is}
 use Rattle.pfs_audit.specs.Schedule.{Starts, end_of, EndsBy, IsFeasible, IsLeastSchedule, least_end, least_start}
 use Rattle.pfs_audit.specs.Schedule.{LeastScheduleLaw, NoneEndsEarlier, OneLeastSchedule}
-use Rattle.pfs_audit.proofs.BoundLemmas.{head_along, head_down}
+use Rattle.pfs_audit.proofs.BoundLemmas.{head_down}
+use Rattle.pfs_audit.proofs.Published.LeastTimes.{head_along}
 
 module _ (shop : FlowShop) (order : List ℕ) where
   abbrev weigh : ℕ → ℕ → ℕ

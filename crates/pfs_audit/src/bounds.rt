@@ -2,23 +2,24 @@
 ghost use Rattle.std.specs.Prelude.{◌≡◌, ℕ, ◌+◌, ◌*◌, ◌<◌, ◌≤◌};
 ghost use Rattle.pfs_audit.specs.Bound.{greatest_machine_bound, bound_of, IsLowerBound};
 ghost use Rattle.pfs_audit.specs.Private.Sums.{AreSumsOf};
+ghost use Rattle.pfs_audit.specs.Sums.{AreSums};
 
 use pfs_base::{Instance, LONGEST_TIME, MOST_MACHINES, Shop};
 
 // No job has a greater total time.
 const LONGEST_TOTAL: u64 = LONGEST_TIME as u64 * MOST_MACHINES as u64;
 
-// Sums and least times of the jobs of an instance, machine by machine.
+/// Sums and least times of the jobs of an instance, machine by machine.
 #[derive(Drop)]
-struct Sums {
-    // The greatest total time of a job.
-    longest: u64,
-    // The least time of a job before each machine.
-    before: [u64; MOST_MACHINES],
-    // The times of all jobs on each machine.
-    load: [u64; MOST_MACHINES],
-    // The least time of a job after each machine.
-    after: [u64; MOST_MACHINES],
+pub struct Sums {
+    /// The greatest total time of a job.
+    pub longest: u64,
+    /// The least time of a job before each machine.
+    pub before: [u64; MOST_MACHINES],
+    /// The times of all jobs on each machine.
+    pub load: [u64; MOST_MACHINES],
+    /// The least time of a job after each machine.
+    pub after: [u64; MOST_MACHINES],
 }
 
 /// A lower bound of the makespan of every order of all jobs (Taillard 1993), in the instance's own unit of
@@ -35,7 +36,7 @@ pub fn bound(instance: &Instance) -> u64
 
 // The greatest of the machines' bounds.
 fn longest_machine(instance: &Instance, sums: &Sums) -> u64
-    requires { AreSumsOf instance.now.shop instance.now.shop.jobs sums.now }
+    requires { AreSums instance.now.shop sums.now }
     ensures { result ≡ greatest_machine_bound instance.now.shop }
 {
     let mut most: u64 = 0;
@@ -45,9 +46,9 @@ fn longest_machine(instance: &Instance, sums: &Sums) -> u64
     most
 }
 
-// The sums of all jobs.
-fn sums_of(instance: &Instance) -> Sums
-    ensures { AreSumsOf instance.now.shop instance.now.shop.jobs result }
+/// The sums of all jobs.
+pub fn sums_of(instance: &Instance) -> Sums
+    ensures { AreSums instance.now.shop result }
 {
     let mut sums = Sums {
         longest: 0,

@@ -9,7 +9,7 @@ mod recurrence;
 mod timetable;
 mod verdicts;
 
-pub use bounds::bound;
+pub use bounds::{Sums, bound, sums_of};
 pub use fault::AuditFault;
 pub use recurrence::makespan;
 pub use timetable::{TimeTable, table};

@@ -2,6 +2,7 @@
 #![tactic(auto)]
 
 mod batch;
+mod examples;
 mod lanes;
 mod rows;
 mod spans;

@@ -7,7 +7,7 @@ use Rattle.pfs_base.specs.Paths.{makespan}
 use Rattle.pfs_exact.specs.declared.parts.Part.{Part}
 use Rattle.pfs_exact.specs.Parts.{IsFull, IsIn, IsInSome, IsPart}
 use Rattle.pfs_exact.specs.Parts.{NothingLeft, PartSearched, PartBounded, PartsBounded}
-use Rattle.pfs_exact.proofs.Sides.{from_none}
+use Rattle.pfs_exact.proofs.GrownEnds.{from_none}
 
 pub in_left : (order : List ℕ) (parts more : List Part) → IsInSome order parts → IsInSome order (parts ++ more)
 in_left order [] more among = absurd among

@@ -8,7 +8,7 @@ use Rattle.pfs_exact.specs.declared.node.Node.{Node}
 use Rattle.pfs_exact.specs.Private.Ahead.{AreAhead, AreBehind}
 use Rattle.pfs_exact.specs.Private.Blocks.{cell, AreShut, EachLane, IsAtMost}
 use Rattle.pfs_exact.specs.Private.Nodes.{AreBounds, AreLeast, AreOpen, IsChild, IsLeast, IsNode, IsRest}
-use Rattle.pfs_exact.proofs.Machines.{start-le, rest-le}
+use Rattle.pfs_exact.proofs.MachineBounds.{start-le, rest-le}
 
 module _ (shop : FlowShop) (front back : List ℕ) (node : Node) (least : List ℕ) (machines : ℕ)
     (few : machines ≡ shop.machines) (is : IsNode shop front back node) (shorts : AreLeast shop front back least)

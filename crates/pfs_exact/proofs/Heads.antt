@@ -1,32 +1,16 @@
 -- Heads of an order, row by row and machine by machine.
-use Rattle.std.proofs.Common.{◌≡◌, ℕ, zero, suc, ◌+◌, ◌-◌, ◌*◌, ◌≤◌, List, [], ◌∷◌, ◌++◌, length, get_or}
-use Rattle.std.proofs.Common.{refl, sym, ap, ◌∙◌, arith}
+use Rattle.std.proofs.Common.{◌≡◌, ℕ, zero, suc, ◌+◌, ◌≤◌, List, [], ◌∷◌, ◌++◌, length}
+use Rattle.std.proofs.Common.{sym, ap, ◌∙◌, arith}
 use Rattle.std.proofs.Math.Nat.{add-zero, add-suc}
 use Rattle.std.proofs.Math.Seq.{get_or-append_seam}
 use Rattle.std.proofs.lemmas.List.{append_assoc, length-append}
 use Rattle.std.proofs.lemmas.List.Sums.{sum_by-cons}
-use Rattle.pfs_base.specs.declared.limits.TheConstants.{LONGEST_TIME}
-use Rattle.pfs_base.specs.Limits.{limits}
-use Rattle.pfs_base.specs.FlowShop.{FlowShop, IsWithin, time_of}
-use Rattle.pfs_base.specs.Paths.{operation, makespan}
-use Rattle.pfs_base.proofs.Published.Heads.{head, head_le, head_step, heaviest_is, makespan_is, time_of-le}
-use Rattle.pfs_exact.specs.Private.Nodes.{head_of, times_on}
-
-pub head_of-is : (shop : FlowShop) (jobs : List ℕ) (rows machine : ℕ)
-    → head_of shop jobs rows machine ≡ head (operation shop jobs) rows machine
-head_of-is shop jobs zero machine = refl
-head_of-is shop jobs (suc row) machine = heaviest_is (operation shop jobs) row machine
-
-pub head_of-le : (shop : FlowShop) → IsWithin limits shop → (jobs : List ℕ) (rows machine : ℕ)
-    → head_of shop jobs rows machine ≤ (rows + machine) * LONGEST_TIME
-head_of-le shop within jobs rows machine =
-    let is = head_of-is shop jobs rows machine in
-    let small = λ (row m : ℕ). time_of-le shop within (get_or jobs row 0) m in
-    let short = head_le (operation shop jobs) LONGEST_TIME small rows machine in
-    omega arith
-
-pub span_is : (shop : FlowShop) (jobs : List ℕ) → makespan shop jobs ≡ head_of shop jobs (length jobs) (shop.machines - 1)
-span_is shop jobs = makespan_is shop jobs ∙ sym (head_of-is shop jobs (length jobs) (shop.machines - 1))
+use Rattle.pfs_base.specs.FlowShop.{FlowShop, time_of}
+use Rattle.pfs_base.specs.Paths.{operation}
+use Rattle.pfs_base.specs.Heads.{head_of}
+use Rattle.pfs_base.proofs.Published.HeadRows.{head_of-is}
+use Rattle.pfs_base.proofs.Published.Heads.{head_step}
+use Rattle.pfs_exact.specs.Private.Nodes.{times_on}
 
 -- heads grow along their row
 pub along : (shop : FlowShop) (jobs : List ℕ) (rows machine many : ℕ)

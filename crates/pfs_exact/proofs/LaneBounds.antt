@@ -4,11 +4,11 @@ use Rattle.pfs_base.specs.FlowShop.{FlowShop, time_of}
 use Rattle.pfs_audit.specs.Bound.{IsLowerBound}
 use Rattle.pfs_exact.specs.Private.Ahead.{IsSum}
 use Rattle.pfs_exact.specs.Private.Nodes.{IsLeast, IsLeft, IsRest, IsStart, NoneShorter}
-use Rattle.pfs_exact.proofs.Machines.{IsBefore, IsReady, before_zero, before_on, end_at, front_left, front_rest}
-use Rattle.pfs_exact.proofs.Machines.{ready_zero, ready_end, ready_on, bound_at}
-use Rattle.pfs_exact.proofs.Machines.{IsAfter, IsTail, after-le, after_max, after_on, after_rest, bound_behind_at}
-use Rattle.pfs_exact.proofs.Machines.{tail_after, tail_max, tail_on}
-use Rattle.pfs_exact.proofs.Sides.{to_none}
+use Rattle.pfs_exact.proofs.MachineBounds.{IsBefore, IsReady, before_zero, before_on, end_at, front_left, front_rest}
+use Rattle.pfs_exact.proofs.MachineBounds.{ready_zero, ready_end, ready_on, bound_at}
+use Rattle.pfs_exact.proofs.MachineBounds.{IsAfter, IsTail, after-le, after_max, after_on, after_rest, bound_behind_at}
+use Rattle.pfs_exact.proofs.MachineBounds.{tail_after, tail_max, tail_on}
+use Rattle.pfs_exact.proofs.GrownEnds.{to_none}
 
 module _ (shop : FlowShop) (front : List ℕ) (job : ℕ) (back : List ℕ) where
   -- what the numbers of a lane mean before a machine, with one more of the first jobs

@@ -3,12 +3,14 @@ mod Bounds
 mod Cells
 mod Covering
 mod Eight
-mod Entered
 mod Gathered
+pub mod GrownEnds
 pub mod Heads
+mod JobsByLag
 mod LaneBounds
-pub mod Machines
+pub mod MachineBounds
+mod RootBounds
+mod SearchedChildren
 mod Searching
-pub mod Sides
-mod Through
+mod TwoMachines
 mod Vectors

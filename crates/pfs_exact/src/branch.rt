@@ -1,8 +1,7 @@
 //! The recursion.
 ghost use Rattle.std.specs.Prelude.{◌≡◌, ℕ, ◌+◌, ◌-◌, ◌<◌, ◌≤◌, [], ◌∷◌, ◌++◌, length, slice_index, OnOk};
-ghost use Rattle.pfs_base.specs.Paths.{makespan};
 ghost use Rattle.pfs_exact.specs.MostNodes.{most_nodes};
-ghost use Rattle.pfs_exact.specs.Private.Nodes.{AreEnds, AreHeads, Continues, Every, IsDone, IsNode, IsWork, NoneShorter};
+ghost use Rattle.pfs_exact.specs.Private.Nodes.{AreEnds, Continues, Every, IsDone, IsNode, IsWork, NoneShorter};
 
 use crate::children::{CLOSED, Room, children_of};
 use crate::ends::{Ends, put, take};
@@ -11,6 +10,7 @@ use crate::parts::{Part, leave};
 use crate::prove::{MOST_PROVED_JOBS, MOST_PROVED_MACHINES};
 use crate::table::Table;
 use pfs_base::Instance;
+use pfs_base::heads::span_of;
 use pfs_order::Seq;
 use std::alloc::{AllocError, Global};
 
@@ -126,7 +126,7 @@ fn finish(instance: &Instance, work: &mut Work)
     ensures low { NoneShorter instance.now.shop work.old.ends.front.jobs work.old.ends.back.jobs work.new.makespan }
 {
     join(&mut work.spare, &work.ends);
-    let span = span_of(instance, &work.spare);
+    let span = span_of(instance, work.spare.as_slice());
     if span < work.makespan {
         work.best.copy_from(&work.spare);
         work.makespan = span;
@@ -144,35 +144,5 @@ fn join(whole: &mut Seq, ends: &Ends)
     for place in 0..ends.back.len() {
         let end = whole.len();
         whole.insert_at(end, ends.back.at(place));
-    }
-}
-
-/// The makespan of a sequence.
-pub(crate) fn span_of(instance: &Instance, seq: &Seq) -> u64
-    requires machines { instance.now.shop.machines ≤ MOST_PROVED_MACHINES }
-    requires size { seq.now.size ≡ instance.now.shop.jobs }
-    ensures { result ≡ makespan instance.now.shop seq.now.jobs }
-{
-    let mut heads = [0; MOST_PROVED_MACHINES];
-    for place in 0..seq.len() {
-        add_head(instance, seq, place, &mut heads);
-    }
-    heads[instance.machines() - 1]
-}
-
-// The heads of one more row.
-fn add_head(instance: &Instance, seq: &Seq, place: usize, heads: &mut [u64; MOST_PROVED_MACHINES])
-    requires machines { instance.now.shop.machines ≤ MOST_PROVED_MACHINES }
-    requires size { seq.now.size ≡ instance.now.shop.jobs }
-    requires place { place < length seq.now.jobs }
-    requires heads { AreHeads instance.now.shop seq.now.jobs place heads.old }
-    ensures { AreHeads instance.now.shop seq.now.jobs (place + 1) heads.new }
-{
-    let _len = seq.len();
-    let job = seq.at(place);
-    let mut before: u64 = 0;
-    for machine in 0..instance.machines() {
-        before = before.max(heads[machine]) + u64::from(instance.time(job, machine));
-        heads[machine] = before;
     }
 }

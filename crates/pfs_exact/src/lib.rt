@@ -7,6 +7,7 @@ mod branch;
 mod children;
 mod eights;
 mod ends;
+mod examples;
 mod lanes;
 mod node;
 mod pairs;
@@ -14,6 +15,8 @@ mod parts;
 mod prove;
 mod table;
 
+pub use node::{grow_back, grow_front, leave, plus};
+pub use pairs::bound_by_pairs;
 pub use parts::{Part, nothing_left, part_bounded, part_searched, parts_bounded};
 pub use prove::{
     MOST_PROVED_JOBS, MOST_PROVED_MACHINES, Proved, Searched, prove_order, prove_parts,

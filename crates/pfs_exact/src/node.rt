@@ -1,13 +1,13 @@
 //! What is known of the orders of a node, machine by machine.
 ghost use Rattle.std.specs.Prelude.{◌≡◌, ℕ, ◌+◌, ◌-◌, ◌<◌, ◌≤◌, List, [], ◌∷◌, ◌++◌, length, slice_index};
 ghost use Rattle.pfs_base.specs.FlowShop.{time_of};
-ghost use Rattle.pfs_audit.specs.Bound.{load_of};
 ghost use Rattle.pfs_exact.specs.Private.Nodes.{AreEnds, AreLeast, AreLeft, AreOpen, AreRests, AreStarts};
 ghost use Rattle.pfs_exact.specs.Private.Nodes.{IsNode, IsOpen, put_of};
 ghost use Rattle.pfs_exact.specs.declared.ends.Ends.{Ends};
 
 use crate::ends::Ends;
 use crate::prove::{MOST_PROVED_JOBS, MOST_PROVED_MACHINES};
+use pfs_audit::sums_of;
 use pfs_base::Instance;
 
 /// Machine by machine: a time before which the next job does not start; the time from the end of the jobs between to the
@@ -20,7 +20,7 @@ pub(crate) struct Node {
 }
 
 /// The sum, or less if it does not fit, as of any lower bounds.
-pub(crate) fn plus(one: u64, other: u64) -> u64
+pub fn plus(one: u64, other: u64) -> u64
     ensures { result ≤ one + other }
 {
     one.wrapping_add(other)
@@ -31,36 +31,13 @@ pub(crate) fn root(instance: &Instance) -> Node
     requires { instance.now.shop.machines ≤ MOST_PROVED_MACHINES }
     ensures { IsNode instance.now.shop [] [] result }
 {
+    let mut left = [0; MOST_PROVED_MACHINES];
+    copy(&sums_of(instance).load, &mut left, instance.machines());
     Node {
         starts: [0; MOST_PROVED_MACHINES],
         rests: [0; MOST_PROVED_MACHINES],
-        left: loads_of(instance),
+        left,
     }
-}
-
-// The loads of the machines.
-fn loads_of(instance: &Instance) -> [u64; MOST_PROVED_MACHINES]
-    requires { instance.now.shop.machines ≤ MOST_PROVED_MACHINES }
-    ensures { (machine : ℕ) → machine < instance.now.shop.machines
-        → slice_index result machine ≤ load_of instance.now.shop machine }
-{
-    let mut loads = [0; MOST_PROVED_MACHINES];
-    for machine in 0..instance.machines() {
-        loads[machine] = load_on(instance, machine);
-    }
-    loads
-}
-
-// The load of a machine.
-fn load_on(instance: &Instance, machine: usize) -> u64
-    requires { machine < instance.now.shop.machines }
-    ensures { result ≤ load_of instance.now.shop machine }
-{
-    let mut load: u64 = 0;
-    for job in 0..instance.jobs() {
-        load = plus(load, u64::from(instance.time(job, machine)));
-    }
-    load
 }
 
 /// Makes `next` the node with one more job at an end.
@@ -91,16 +68,13 @@ pub(crate) fn copy(from: &[u64], to: &mut [u64], many: usize)
     }
 }
 
-// The starts after one more of the first jobs.
-fn grow_front(
-    instance: &Instance,
-    starts: &[u64; MOST_PROVED_MACHINES],
-    job: usize,
-    next: &mut [u64; MOST_PROVED_MACHINES],
-)
-    requires machines { instance.now.shop.machines ≤ MOST_PROVED_MACHINES }
+/// The starts after one more of the first jobs.
+pub fn grow_front(instance: &Instance, starts: &[u64], job: usize, next: &mut [u64])
     requires job { job < instance.now.shop.jobs }
-    ensures { (front back : List ℕ) → AreStarts instance.now.shop front back starts.now
+    requires starts { instance.now.shop.machines ≤ length starts.now }
+    requires next { instance.now.shop.machines ≤ length next.old }
+    ensures len { length next.new ≡ length next.old }
+    ensures starts { (front back : List ℕ) → AreStarts instance.now.shop front back starts.now
         → AreStarts instance.now.shop (front ++ job ∷ []) back next.new }
 {
     let mut before: u64 = 0;
@@ -113,16 +87,13 @@ fn grow_front(
     }
 }
 
-// The rests before one more of the last jobs.
-fn grow_back(
-    instance: &Instance,
-    rests: &[u64; MOST_PROVED_MACHINES],
-    job: usize,
-    next: &mut [u64; MOST_PROVED_MACHINES],
-)
-    requires machines { instance.now.shop.machines ≤ MOST_PROVED_MACHINES }
+/// The rests before one more of the last jobs.
+pub fn grow_back(instance: &Instance, rests: &[u64], job: usize, next: &mut [u64])
     requires job { job < instance.now.shop.jobs }
-    ensures { (front back : List ℕ) → AreRests instance.now.shop front back rests.now
+    requires rests { instance.now.shop.machines ≤ length rests.now }
+    requires next { instance.now.shop.machines ≤ length next.old }
+    ensures len { length next.new ≡ length next.old }
+    ensures rests { (front back : List ℕ) → AreRests instance.now.shop front back rests.now
         → AreRests instance.now.shop front (job ∷ back) next.new }
 {
     let machines = instance.machines();
@@ -136,16 +107,13 @@ fn grow_back(
     }
 }
 
-// The times of the jobs between without a job.
-fn leave(
-    instance: &Instance,
-    left: &[u64; MOST_PROVED_MACHINES],
-    job: usize,
-    next: &mut [u64; MOST_PROVED_MACHINES],
-)
-    requires machines { instance.now.shop.machines ≤ MOST_PROVED_MACHINES }
+/// The times of the jobs between without a job.
+pub fn leave(instance: &Instance, left: &[u64], job: usize, next: &mut [u64])
     requires job { job < instance.now.shop.jobs }
-    ensures { (machine : ℕ) → machine < instance.now.shop.machines
+    requires left { instance.now.shop.machines ≤ length left.now }
+    requires next { instance.now.shop.machines ≤ length next.old }
+    ensures len { length next.new ≡ length next.old }
+    ensures left { (machine : ℕ) → machine < instance.now.shop.machines
         → slice_index next.new machine ≤ slice_index left.now machine - time_of instance.now.shop job machine }
 {
     for machine in 0..instance.machines() {

@@ -4,18 +4,19 @@ ghost use Rattle.pfs_base.specs.Paths.{makespan};
 ghost use Rattle.pfs_audit.specs.Bound.{bound_of, IsLowerBound};
 ghost use Rattle.pfs_exact.specs.MostNodes.{most_nodes};
 ghost use Rattle.pfs_order.specs.Sequence.{IsSequence};
-ghost use Rattle.pfs_exact.specs.Private.Nodes.{AreEnds, Continues, Every, IsDone, IsNode, IsWork};
+ghost use Rattle.pfs_exact.specs.Private.Nodes.{Continues, Every, IsDone, IsNode, IsWork};
 ghost use Rattle.pfs_exact.specs.Parts.{CoversSome, IsPart, most_of};
 
-use crate::branch::{Work, branch, span_of};
+use crate::branch::{Work, branch};
 use crate::children::Room;
-use crate::ends::{Ends, mark_open};
-use crate::node::{Node, child, least_times, raise, root};
-use crate::pairs::bound_of_pairs;
+use crate::ends::Ends;
+use crate::node::{Node, child, root};
+use crate::pairs::bound_by_pairs;
 use crate::parts::{Part, least_bound};
 use crate::table::Table;
 use pfs_audit::bound;
 use pfs_base::Instance;
+use pfs_base::heads::span_of;
 use pfs_order::{Order, OrderFault, Seq};
 use std::alloc::{AllocError, Global};
 
@@ -246,12 +247,14 @@ fn work_of(
     let spare = Seq::new(alloc, instance.jobs())?;
     let mut best = Seq::new(alloc, instance.jobs())?;
     best.copy_from(order.seq());
-    let makespan = span_of(instance, &best);
+    let makespan = span_of(instance, best.as_slice());
     let ends = Ends {
         front: Seq::new(alloc, instance.jobs())?,
         back: Seq::new(alloc, instance.jobs())?,
     };
-    let floor = floor_of(instance, &ends, makespan);
+    let Ok(floor) = floor_of(alloc, instance, makespan) else {
+        return Err(OrderFault::Memory);
+    };
     let Ok(table) = Table::new(alloc, instance) else {
         return Err(OrderFault::Memory);
     };
@@ -269,25 +272,13 @@ fn work_of(
 }
 
 // A number that no order is shorter than. Pairs of machines raise it if it is below the makespan.
-fn floor_of(instance: &Instance, ends: &Ends, makespan: u64) -> u64
-    requires jobs { instance.now.shop.jobs ≤ MOST_PROVED_JOBS }
-    requires machines { instance.now.shop.machines ≤ MOST_PROVED_MACHINES }
-    requires ends { AreEnds instance.now.shop.jobs ends.now }
-    requires front { ends.now.front.jobs ≡ [] }
-    requires back { ends.now.back.jobs ≡ [] }
-    ensures low { IsLowerBound instance.now.shop result }
-    ensures raised { bound_of instance.now.shop ≤ result }
+fn floor_of(alloc: Global, instance: &Instance, makespan: u64) -> Result<u64, AllocError>
+    ensures low { IfOk result (λ floor. IsLowerBound instance.now.shop floor) }
+    ensures raised { IfOk result (λ floor. bound_of instance.now.shop ≤ floor) }
 {
-    let _jobs = instance.jobs();
     let floor = bound(instance);
     if floor >= makespan {
-        return floor;
+        return Ok(floor);
     }
-    let mut node = root(instance);
-    let mut marks = [false; MOST_PROVED_JOBS];
-    let mut least = [0; MOST_PROVED_MACHINES];
-    mark_open(instance, ends, &mut marks);
-    least_times(instance, ends, &marks, &mut least);
-    raise(instance, ends, &least, &mut node);
-    floor.max(bound_of_pairs(instance, &node))
+    bound_by_pairs(alloc, instance)
 }

@@ -4,12 +4,14 @@ use Rattle.std.proofs.Common.{sym, ◌∙◌, inl, inr, add-one, arith, Bool, tr
 use Rattle.std.proofs.lemmas.Bool.{cases_lt, lt-ltb}
 use Rattle.pfs_base.specs.declared.limits.TheConstants.{MOST_JOBS, MOST_MACHINES, LONGEST_TIME}
 use Rattle.pfs_base.specs.FlowShop.{FlowShop, time_of, IsWithin}
+use Rattle.pfs_base.specs.Heads.{head_of}
 use Rattle.pfs_base.specs.Limits.{limits}
 use Rattle.pfs_base.specs.Paths.{operation}
 use Rattle.pfs_base.proofs.Published.Heaviest.{most, most_here, most_on, most_down, most_first, most_moved}
 use Rattle.pfs_base.proofs.Published.Heads.{head, head_le, head_step, heaviest_is, time_of-le}
+use Rattle.pfs_base.proofs.Published.HeadRows.{head_of-is, head_of-le}
 use Rattle.pfs_insert.specs.Exchange.{heaviest_front, heaviest_back}
-use Rattle.pfs_insert.specs.Private.Rows.{head_of, in_turn, next_row, row_value, times_in_turn}
+use Rattle.pfs_insert.specs.Private.Rows.{in_turn, next_row, row_value, times_in_turn}
 use Rattle.pfs_insert.proofs.Exchange.{back_none, operation_before, operation_at}
 use Rattle.pfs_insert.proofs.RowSteps.{next_row_same}
 
@@ -132,11 +134,6 @@ module _ (shop : FlowShop) (jobs : List ℕ) (job place : ℕ) (within : place �
       (λ k le. sym (operation_at shop jobs job place within k)) (λ k le. same_heads place k (omega arith))
       ∙ next_row_heads shop (insert jobs place job) place machine ∙ sym (heaviest_is weigh place machine)
 
-head_of_is : (shop : FlowShop) (jobs : List ℕ) (place machine : ℕ)
-    → head_of shop jobs place machine ≡ head (operation shop jobs) place machine
-head_of_is shop jobs zero machine = refl
-head_of_is shop jobs (suc place) machine = heaviest_is (operation shop jobs) place machine
-
 -- the row of the next job, of heads or of tails
 pub row_next : (shop : FlowShop) (jobs : List ℕ) (back : Bool) (count job turn : ℕ) → count < length jobs
     → job ≡ get_or jobs (in_turn back (length jobs) count) 0 → turn < shop.machines
@@ -145,8 +142,8 @@ pub row_next : (shop : FlowShop) (jobs : List ℕ) (back : Bool) (count job turn
 row_next shop jobs false count job turn inside job_is lt =
     next_row_same (time_of shop job) (operation shop jobs count) (head_of shop jobs count)
     (head (operation shop jobs) count) turn (λ m le. ap (λ j. time_of shop j m) job_is)
-    (λ m le. head_of_is shop jobs count m)
-    ∙ next_row_heads shop jobs count turn ∙ rw add-one (sym (head_of_is shop jobs (suc count) turn))
+    (λ m le. head_of-is shop jobs count m)
+    ∙ next_row_heads shop jobs count turn ∙ rw add-one (sym (head_of-is shop jobs (suc count) turn))
 row_next shop jobs true count job turn inside job_is lt =
     let row = length jobs - 1 - count in
     let under : length jobs - count ≡ suc row = omega arith in
@@ -163,7 +160,7 @@ pub put_row : (shop : FlowShop) (jobs : List ℕ) (job place : ℕ) → place �
     ≡ heaviest_front shop (insert jobs place job) place machine
 put_row shop jobs job place within machine =
     next_row_same (time_of shop job) (time_of shop job) (head_of shop jobs place) (head (operation shop jobs) place)
-    machine (λ m le. refl) (λ m le. head_of_is shop jobs place m)
+    machine (λ m le. refl) (λ m le. head_of-is shop jobs place m)
     ∙ front_is shop jobs job place within machine
 
 -- heads and tails are within the bound on the weight of a path
@@ -188,8 +185,7 @@ module _ (shop : FlowShop) (within : IsWithin limits shop) (jobs : List ℕ) (fe
       head_of shop jobs place machine ≤ (MOST_JOBS + MOST_MACHINES) * LONGEST_TIME
   heads_short place machine le lt =
       let sizes = within.sizes in
-      let small = λ (r m : ℕ). time_of-le shop within (get_or jobs r 0) m in
-      omega (arith, head_of_is shop jobs place machine, head_le (operation shop jobs) LONGEST_TIME small place machine)
+      omega (arith, head_of-le shop within jobs place machine)
 
   pub rows_short : (back : Bool) (count turn : ℕ) → count ≤ length jobs → turn < shop.machines
       → row_value shop jobs back count turn ≤ (MOST_JOBS + MOST_MACHINES) * LONGEST_TIME

@@ -18,17 +18,17 @@ from pfs.base.version import VERSION as __version__
 # Not the one of typing: `__main__` has to be run before any other module is imported.
 TYPE_CHECKING = False
 if TYPE_CHECKING:
-    from pfs.shops.many import solve_all
     from pfs.audits.audit import Audited, audit
-    from pfs.schedules.calendar import Calendar
-    from pfs.base.faults import Fault, FileFault, Interrupted, InterruptedAll, OrderFault, TableFault
+    from pfs.base.faults import Fault, FileFault, OrderFault, TableFault
     from pfs.files.instances import from_frame, generate, parse_order, read, read_all, read_order, taillard
-    from pfs.shops.instance import Check, Instance, Place, Sequence
+    from pfs.files.tables import read_csv
+    from pfs.schedules.calendar import Calendar
     from pfs.schedules.report import Report
     from pfs.schedules.rest import Rest
     from pfs.schedules.schedule import Schedule
-    from pfs.shops.solution import Improvement, Solution
-    from pfs.files.tables import read_csv
+    from pfs.shops.instance import Check, Instance, Place
+    from pfs.shops.many import solve_all
+    from pfs.shops.solution import Improvement, Interrupted, InterruptedAll, Sequence, Solution
 else:
     def __getattr__(name: str) -> object:
         """Import a name of the package at its first use: `pfs-gantt` and `pfs.experiments` need no library."""

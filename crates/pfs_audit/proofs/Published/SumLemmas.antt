@@ -1,19 +1,18 @@
 -- The sums of the first jobs, with one more job and machine by machine.
-use Rattle.std.proofs.Common.{◌≡◌, ◌≢◌, ℕ, zero, suc, ◌+◌, ◌-◌, ◌*◌, ◌<◌, ◌≤◌, min, List, [], ◌∷◌, map, length, get_or}
-use Rattle.std.proofs.Common.{replicate, set, ap, ◌∙◌, add-one, inl, inr, arith}
+use Rattle.std.proofs.Common.{◌≡◌, ℕ, zero, suc, ◌+◌, ◌-◌, ◌*◌, ◌<◌, ◌≤◌, min, [], ◌∷◌, map}
+use Rattle.std.proofs.Common.{replicate, ap, ◌∙◌, add-one, arith}
 use Rattle.std.specs.List.{sum_by, range_with_len, fold}
-use Rattle.std.proofs.Math.ListN.{length-set}
 use Rattle.std.proofs.Math.Nat.{add-zero, add-suc}
-use Rattle.std.proofs.lemmas.Bool.{cases_eq}
-use Rattle.std.proofs.lemmas.List.{get_or-replicate, get_or-set_same, get_or-set_other, length-replicate}
+use Rattle.std.proofs.lemmas.List.{get_or-replicate, length-replicate}
 use Rattle.std.proofs.lemmas.List.Sums.{fold-append}
 use Rattle.std.proofs.lemmas.List.FromFn.{map-range_with_len_more}
 use Rattle.pfs_base.specs.declared.limits.TheConstants.{LONGEST_TIME, MOST_MACHINES}
 use Rattle.pfs_base.specs.Limits.{limits}
+use Rattle.pfs_base.specs.Heads.{AreOf}
 use Rattle.pfs_base.specs.FlowShop.{FlowShop, IsWithin, time_of}
 use Rattle.pfs_base.proofs.Published.Heads.{time_of-le}
 use Rattle.pfs_audit.specs.Bound.{least, time_on}
-use Rattle.pfs_audit.specs.Private.Sums.{least_among, load_among, AreOf}
+use Rattle.pfs_audit.specs.Private.Sums.{least_among, load_among}
 use Rattle.pfs_audit.specs.declared.bounds.TheConstants.{LONGEST_TOTAL}
 use Rattle.pfs_audit.proofs.Published.Ranges.{sum_by-range-suc, sum_by-below-suc, sum_by-below-more}
 
@@ -86,33 +85,3 @@ all_same machines many x few = record {
   every = omega (arith, length-replicate many x);
   values = λ machine small. get_or-replicate many machine x 0 (omega arith);
 }
-
--- before `machine`, the numbers include one more job than from it on
-pub record HavePartly (value : ℕ → ℕ → ℕ) (machines job machine : ℕ) (numbers : List ℕ) : Type 0 where
-  pub every : machines ≤ length numbers
-  pub done : (k : ℕ) → k < machine → get_or numbers k 0 ≡ value (job + 1) k
-  pub to_do : (k : ℕ) → machine ≤ k → k < machines → get_or numbers k 0 ≡ value job k
-
-pub have_none : (value : ℕ → ℕ → ℕ) (machines job : ℕ) (numbers : List ℕ) → AreOf (value job) machines numbers
-    → HavePartly value machines job 0 numbers
-have_none value machines job numbers are = record {
-  every = are.every;
-  done = λ k h. absurd (omega arith);
-  to_do = λ k h small. are.values k small;
-}
-
-pub have_more : (value : ℕ → ℕ → ℕ) (machines job machine x : ℕ) (numbers : List ℕ) → machine < machines
-    → HavePartly value machines job machine numbers → x ≡ value (job + 1) machine
-    → HavePartly value machines job (machine + 1) (set numbers machine x)
-have_more value machines job machine x numbers small have here =
-    let within : machine < length numbers = omega (arith, have.every) in
-    record {
-      every = omega (arith, length-set numbers machine x);
-      done = λ k below. elim (cases_eq k machine) [
-        | inl is ↦ rw is (get_or-set_same numbers machine x 0 within ∙ here)
-        | inr other ↦ get_or-set_other numbers machine k x 0 other ∙ have.done k (omega arith)
-      ];
-      to_do = λ k above inside.
-          let other : k ≢ machine = omega arith in
-          get_or-set_other numbers machine k x 0 other ∙ have.to_do k (omega arith) inside;
-    }

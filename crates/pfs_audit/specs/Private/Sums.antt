@@ -1,6 +1,7 @@
 -- Sums and least times of the first jobs of a flow shop, machine by machine. Jobs and machines count from 0.
-use Rattle.std.specs.Prelude.{◌≡◌, ℕ, ◌+◌, ◌-◌, ◌<◌, ◌≤◌, min, List, length, map, fold, slice_index, sum_by}
+use Rattle.std.specs.Prelude.{◌≡◌, ℕ, ◌+◌, ◌-◌, min, map, fold, sum_by}
 use Rattle.pfs_base.specs.FlowShop.{FlowShop, time_of, total_of}
+use Rattle.pfs_base.specs.Heads.{AreOf}
 use Rattle.pfs_base.specs.Paths.{greatest}
 use Rattle.pfs_order.specs.Sequence.{all_jobs}
 use Rattle.pfs_audit.specs.Bound.{time_on}
@@ -15,11 +16,6 @@ least_among shop jobs from many = fold min LONGEST_TOTAL (map (time_on shop from
 -- the sum of the times of the first jobs on a machine
 abbrev pub load_among : FlowShop → ℕ → ℕ → ℕ
 load_among shop jobs machine = sum_by (λ job. time_of shop job machine) (all_jobs jobs)
-
--- the numbers begin with these values, one for each machine
-pub record AreOf (value : ℕ → ℕ) (machines : ℕ) (numbers : List ℕ) : Type 0 where
-  pub every : machines ≤ length numbers
-  pub values : (machine : ℕ) → machine < machines → slice_index numbers machine ≡ value machine
 
 -- the sums of the first jobs
 pub record AreSumsOf (shop : FlowShop) (jobs : ℕ) (sums : Sums) : Type 0 where

@@ -1,9 +1,10 @@
 -- Orders that begin and end with some jobs, how short they can be, and what a node of the search keeps of them. Jobs and
 -- machines count from 0.
-use Rattle.std.specs.Prelude.{◌≡◌, ℕ, zero, suc, Bool, true, false, ◌+◌, ◌-◌, ◌<◌, ◌≤◌, List, [], ◌∷◌, ◌++◌, length}
+use Rattle.std.specs.Prelude.{◌≡◌, ℕ, suc, Bool, true, false, ◌+◌, ◌-◌, ◌<◌, ◌≤◌, List, [], ◌∷◌, ◌++◌, length}
 use Rattle.std.specs.Prelude.{slice_index, slice_index_or, remove, sum_by, Contains, min, ◌⊎◌, All}
 use Rattle.pfs_base.specs.FlowShop.{FlowShop, time_of}
-use Rattle.pfs_base.specs.Paths.{heaviest, operation, makespan}
+use Rattle.pfs_base.specs.Heads.{head_of}
+use Rattle.pfs_base.specs.Paths.{makespan}
 use Rattle.pfs_order.specs.Sequence.{IsSequence}
 use Rattle.pfs_audit.specs.Bound.{time_on, IsLowerBound}
 pub use Rattle.pfs_exact.specs.Parts.{IsFull, NoneShorter}
@@ -14,19 +15,9 @@ use Rattle.pfs_exact.specs.declared.children.TheConstants.{CLOSED}
 use Rattle.pfs_exact.specs.declared.ends.Ends.{Ends}
 use Rattle.pfs_exact.specs.declared.node.Node.{Node}
 
--- when the first `rows` jobs are done on a machine, where each operation begins as soon as it can
-abbrev pub head_of : FlowShop → List ℕ → ℕ → ℕ → ℕ
-head_of shop jobs zero machine = 0
-head_of shop jobs (suc row) machine = heaviest (operation shop jobs) 0 0 row machine
-
 -- the sum of the times of some jobs on a machine
 abbrev pub times_on : FlowShop → ℕ → List ℕ → ℕ
 times_on shop machine jobs = sum_by (λ job. time_of shop job machine) jobs
-
--- the heads of the first rows
-abbrev pub AreHeads : FlowShop → List ℕ → ℕ → List ℕ → Type 0
-AreHeads shop jobs rows heads =
-    (machine : ℕ) → machine < shop.machines → slice_index heads machine ≡ head_of shop jobs rows machine
 
 -- a job is at neither end
 abbrev pub IsOpen : List ℕ → List ℕ → ℕ → Type 0

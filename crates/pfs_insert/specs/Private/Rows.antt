@@ -3,7 +3,8 @@ use Rattle.std.specs.Prelude.{◌≡◌, ℕ, zero, suc, ◌+◌, ◌-◌, ◌*�
 use Rattle.std.specs.List.{slice_index_or}
 use Rattle.pfs_base.specs.declared.limits.TheConstants.{MOST_JOBS, MOST_MACHINES, LONGEST_TIME}
 use Rattle.pfs_base.specs.FlowShop.{FlowShop, time_of}
-use Rattle.pfs_insert.specs.Exchange.{heaviest_front, heaviest_back}
+use Rattle.pfs_base.specs.Heads.{head_of}
+use Rattle.pfs_insert.specs.Exchange.{heaviest_back}
 use Rattle.pfs_insert.specs.Inserter.{Sizes}
 
 -- the row after a row: the value at a machine is the greater of the value above it and the value before it, plus the
@@ -48,12 +49,6 @@ AreSameOutside {X} shop old new back from to =
     (place : ℕ) (d : X) → place < 2 * (shop.jobs * shop.machines)
     → (place < from * shop.machines) ⊎ (to * shop.machines ≤ place)
     → slice_index_or new (place_of shop back place) d ≡ slice_index_or old (place_of shop back place) d
-
--- the time at which the jobs before a place of the sequence are done on a machine, where each operation begins as soon
--- as it can
-abbrev pub head_of : FlowShop → List ℕ → ℕ → ℕ → ℕ
-head_of shop jobs zero machine = 0
-head_of shop jobs (suc place) machine = heaviest_front shop jobs place machine
 
 -- the heads of the first `count` jobs, from the first machine on, or the tails of the last `count` jobs, from the last
 -- machine on

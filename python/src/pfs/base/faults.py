@@ -1,10 +1,5 @@
-"""Exceptions for invalid files and interrupted searches."""
+"""Exceptions for invalid files."""
 from __future__ import annotations
-
-from typing import TYPE_CHECKING
-
-if TYPE_CHECKING:
-    from pfs.shops.solution import Solution
 
 # The name and the text of each fault by its number. `{}` is the place.
 INSTANCE_FAULTS = {
@@ -24,6 +19,10 @@ ORDER_FAULTS = {
     32: ("job repeated", "order file job repeated at place {}"),
     33: ("order file too long", "order file too long"),
 }
+
+
+class Refused(Exception):
+    """An input is invalid."""
 
 
 class Fault(ValueError):
@@ -130,36 +129,3 @@ def cell_name(line: int, column: int) -> str:
         column, letter = divmod(column - 1, 26)
         letters = chr(ord("A") + letter) + letters
     return f"{letters}{line}"
-
-
-class Interrupted(KeyboardInterrupt):
-    """A search was interrupted, usually by Ctrl-C. It is a ``KeyboardInterrupt``.
-
-    Attributes
-    ----------
-    solution : Solution
-        The best order so far. Continue with ``solve(.., start=solution, first=solution.rounds)``.
-    """
-
-    def __init__(self, solution: Solution) -> None:
-        self.solution = solution
-
-    def __str__(self) -> str:
-        return f"interrupted after round {self.solution.rounds}, makespan {self.solution.makespan}"
-
-
-class InterruptedAll(KeyboardInterrupt):
-    """The searches of :func:`pfs.solve_all` were interrupted, usually by Ctrl-C. It is a ``KeyboardInterrupt``.
-
-    Attributes
-    ----------
-    found : dict
-        The best solution so far for each ``(i, seed)``, where ``i`` is the index of an instance. The same call with
-        ``found=stop.found`` runs the searches that are left.
-    """
-
-    def __init__(self, found: dict[tuple[int, int], Solution]) -> None:
-        self.found = found
-
-    def __str__(self) -> str:
-        return f"interrupted after {len(self.found)} searches"

@@ -16,9 +16,9 @@ from xml.etree import ElementTree
 
 from pfs.base.atomic import atomic_write
 from pfs.base.faults import TableFault
-from pfs.base.names import CLOCK, NOT_IN_XML, printable, shown
+from pfs.base.names import NOT_IN_XML, printable, shown
 from pfs.base.optional import optional
-from pfs.binding import library as c
+from pfs.base.units import CLOCK
 
 # Days count from the first date in workbooks, and from the other one up to February 1900, which had 29 days there.
 # openpyxl takes the last two of them for one.
@@ -26,6 +26,8 @@ FIRST_DAY, FIRST_OF_1900 = datetime.datetime(1899, 12, 30), datetime.datetime(18
 TWO_DAYS = datetime.date(1900, 2, 28)
 # The most rows of a sheet in Excel.
 MOST_ROWS = 1_048_576
+# The most bytes of all parts.
+MOST_UNPACKED = 2**28
 # The most cells of all sheets, of all rows with the empty ones before their last ones, and of one row. The most tags of
 # another part, and of the styles, of which openpyxl takes 40 microseconds for each.
 MOST_CELLS, MOST_IN_ROW, MOST_TAGS, MOST_STYLES = 3_000_000, 16_384, 500_000, 100_000
@@ -128,7 +130,7 @@ def check_parts(archive: zipfile.ZipFile) -> None:
     """Raise an error if the parts of a workbook would take much longer or much more memory than a large table."""
     if "mimetype" in archive.namelist():
         raise ValueError("it is of LibreOffice's own format")
-    if sum(part.file_size for part in archive.infolist()) > 4 * c.LONGEST_INPUT:
+    if sum(part.file_size for part in archive.infolist()) > MOST_UNPACKED:
         raise ValueError("its parts are too large")
     cells = 0
     for name in archive.namelist():

@@ -4,19 +4,13 @@ from __future__ import annotations
 
 import operator
 from array import array
-from typing import TYPE_CHECKING, Any, TypeAlias
+from typing import Any, TypeAlias
 
 import numpy as np
 import numpy.typing as npt
 
 from pfs.binding import library as c
 
-if TYPE_CHECKING:
-    from pfs.shops.instance import Sequence
-    from pfs.shops.solution import Solution
-
-# An order, or a sequence of some of the jobs, counted from 0.
-Jobs: TypeAlias = "npt.ArrayLike | Solution | Sequence"
 # Processing times: a row for each job and a column for each machine.
 Times: TypeAlias = "npt.NDArray[np.uint32]"
 Order: TypeAlias = "npt.NDArray[np.int64]"

@@ -3,24 +3,17 @@ from __future__ import annotations
 
 import argparse
 import os
-import pathlib
 import re
 import signal
-import subprocess
 import sys
 from collections.abc import Callable
 from typing import Any, NoReturn, TextIO
 
-from pfs.base.faults import Fault, TableFault
+from pfs.base.faults import Fault, Refused, TableFault
 from pfs.base.names import shown
-from pfs.base.version import VERSION
 
 # Exit statuses, the same as those of the program pfs.
 REFUSED, USAGE, SYSTEM = 2, 3, 4
-
-
-class Refused(Exception):
-    """An input is invalid."""
 
 
 class Misused(Exception):
@@ -41,21 +34,10 @@ class ShowVersion(argparse.Action):
         super().__init__(option_strings, argparse.SUPPRESS, nargs=0, help="show the version and exit")
 
     def __call__(self, parser: argparse.ArgumentParser, *_: Any) -> None:
+        # What it needs takes longer to import than many a program runs.
+        from pfs.base.checkout import version
         print(f"pfs {version()}")
         parser.exit()
-
-
-def version() -> str:
-    """Return the version; of a checkout with its commit, and whether that has changes."""
-    top = pathlib.Path(__file__).resolve().parents[4]
-    if not (top / ".git").exists():
-        return VERSION
-    words = ["git", "-C", str(top), "describe", "--always", "--exclude=*", "--dirty= with changes"]
-    try:
-        done = subprocess.run(words, stdin=subprocess.DEVNULL, capture_output=True, text=True)
-    except OSError:
-        return VERSION
-    return f"{VERSION}, commit {done.stdout.strip()}" if done.returncode == 0 else VERSION
 
 
 def number(least: int, most: int) -> Callable[[str], int]:

@@ -13,8 +13,9 @@ import sys
 from typing import Any
 
 from pfs.base.atomic import atomic_write
+from pfs.base.faults import Refused
 from pfs.base.optional import optional
-from pfs.commands.cli import CommandLine, Misused, Refused, inches, number, run
+from pfs.commands.cli import CommandLine, Misused, inches, number, run
 from pfs.schedules.drawing import DPI, UNIT, WIDTH, Chart, draw, picture_of
 
 # The most pixels of a PNG, so that it fits into memory.

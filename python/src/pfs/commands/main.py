@@ -24,8 +24,9 @@ from typing import Any
 from pfs.base import wording
 from pfs.base.faults import Fault
 from pfs.base.languages import words_of
-from pfs.base.names import amount, shown
+from pfs.base.names import shown
 from pfs.base.optional import optional
+from pfs.base.units import amount
 from pfs.base.workbooks import OPTIONS_SHEET, Workbook
 from pfs.binding import library as c
 from pfs.binding.rounds import USUAL

@@ -2,11 +2,14 @@
 from __future__ import annotations
 
 from collections.abc import Iterable, Sequence
+from typing import Any, TypeAlias
 
+from pfs.base.faults import Refused
 from pfs.base.names import printable
-from pfs.commands.cli import Refused
 
 plain = printable
+# What a command line says.
+Options: TypeAlias = Any
 
 
 class ExperimentError(Refused):
@@ -20,7 +23,7 @@ def listed(names: Sequence[str], most: int = 10) -> str:
 
 def csv_text(rows: Iterable[Sequence[object]]) -> str:
     """Returns rows as a CSV."""
-    from pfs.base.atomic import csv_writer
+    from pfs.base.cells import csv_writer
     lines: list[str] = []
     csv_writer(lines, ()).writerows(rows)
     return "".join(lines)

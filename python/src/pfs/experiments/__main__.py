@@ -18,7 +18,7 @@ PROGRAMS = f"{os.environ.get('PATH', os.defpath)}:{os.path.dirname(os.path.abspa
 
 # Of each command its module, which has a function of its name, and what it does.
 COMMANDS = {
-    "taillard": ("stage", "Writes the 120 instances of Taillard into a folder."),
+    "taillard": ("folders", "Writes the 120 instances of Taillard into a folder."),
     "run": ("run", "Makes the runs of a plan with GNU parallel, which gets the further options."),
     "slurm": ("run", "Makes the runs of a plan on a Slurm cluster, as one array; sbatch gets the further options."),
     "status": ("run", "Writes the CSV of the runs that have ended so far, while the others continue."),

@@ -1,7 +1,6 @@
 """Audits of published orders."""
 from __future__ import annotations
 
-import argparse
 import contextlib
 import math
 import os
@@ -13,9 +12,9 @@ from pfs.audits.audit import Audited, Row as AuditedRow, Unclear, audited_of, ro
 from pfs.audits.heads import ROLES
 from pfs.audits.shelf import Shelf
 from pfs.audits.supplements import sheet_of
-from pfs.base.atomic import text_cell
+from pfs.base.cells import text_cell
 from pfs.base.faults import Fault, cell_name
-from pfs.experiments import ExperimentError, csv_text, folders, plain
+from pfs.experiments import ExperimentError, Options, csv_text, folders, plain
 from pfs.experiments.plan import Row
 from pfs.experiments.run import path_cell
 from pfs.files.instances import read, read_order
@@ -41,7 +40,7 @@ def columns_of(options: Iterable[str]) -> dict[str, str]:
     return found
 
 
-def audit(args: argparse.Namespace) -> int:
+def audit(args: Options) -> int:
     """Audits a table of published orders. Prints each one that is wrong, unclear or below the reference, what is left
     out, and the numbers of orders; a CSV has the verdict on each. A dry run only prints how the table is read."""
     read = {args.table, *(args.instances.rglob("*") if args.instances else ())}
@@ -70,7 +69,7 @@ def audit(args: argparse.Namespace) -> int:
     return 1 if wrong or figures else 2 if unclear else 0
 
 
-def print_understood(args: argparse.Namespace, columns: Mapping[str, str]) -> int:
+def print_understood(args: Options, columns: Mapping[str, str]) -> int:
     """Prints which columns and instances an audit would read."""
     try:
         shelf, tables, left_out = understood(args.table, args.instances or (), args.layout, columns)

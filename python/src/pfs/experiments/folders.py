@@ -2,7 +2,6 @@
 that they read. And Taillard's instances."""
 from __future__ import annotations
 
-import argparse
 import contextlib
 import datetime
 import fcntl
@@ -24,9 +23,9 @@ from typing import Any, NamedTuple
 from pfs.base import order_text
 from pfs.base.atomic import atomic_write
 from pfs.base.benchmarks import taillard_rows
+from pfs.base.checkout import version
 from pfs.binding import rounds as searches
-from pfs.commands.cli import version
-from pfs.experiments import ExperimentError, listed, one, plain
+from pfs.experiments import ExperimentError, Options, listed, one, plain
 from pfs.experiments.plan import (OF_ITERATED, Reference, Row, is_iterated, read_plan, reference_for, reference_of,
                                   usual_of)
 
@@ -78,7 +77,7 @@ def find_pfs(program: str | None) -> str:
     return os.path.abspath(program)
 
 
-def taillard(args: argparse.Namespace) -> int:
+def taillard(args: Options) -> int:
     """Writes Taillard's 120 instances into a folder, as files ta001 to ta120."""
     pfs = find_pfs(args.pfs)
     args.folder.mkdir(parents=True, exist_ok=True)

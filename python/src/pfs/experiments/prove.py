@@ -1,7 +1,6 @@
-"""Bounds that the library proves for the instances of a CSV, from the best order of each, and the orders that it finds."""
+"""Bounds that the library proves for the instances of a CSV, from the best order of each, and shorter orders."""
 from __future__ import annotations
 
-import argparse
 import hashlib
 import json
 import pathlib
@@ -12,11 +11,11 @@ import pfs
 from pfs.base.faults import Fault
 from pfs.base.version import VERSION
 from pfs.binding import library
-from pfs.experiments import ExperimentError, folders, plain, run
+from pfs.experiments import ExperimentError, Options, folders, plain, run
 from pfs.experiments.plan import Row, rows_of
 
 
-def prove(args: argparse.Namespace) -> int:
+def prove(args: Options) -> int:
     """Proves a bound for each instance of a CSV, and adds the column `proved_bound` to it. What is proved is kept in
     proofs.json next to the CSV, and an order that is shorter than all of the CSV next to the order files."""
     experiment = folders.started(args.csv)
@@ -33,7 +32,7 @@ def prove(args: argparse.Namespace) -> int:
         folders.write_text(experiment.folder / run.PROOFS, json.dumps(found, indent=1))
         count += proof["makespan"] == proof["bound"]
         print(plain(f"{name}: {said_of(run.whole(args.csv, row, 'makespan'), proof)}"), flush=True)
-    print(f"{args.csv}: of {count} of {len(best)} instances the shortest makespan is known", file=sys.stderr)
+    print(f"{args.csv}: the shortest makespan of {count} of {len(best)} instances is known", file=sys.stderr)
     return 1 if any(run.gather(experiment, args.csv)) else 0
 
 
@@ -51,7 +50,7 @@ def said_of(makespan: int, proof: run.Proof) -> str:
     return f"{makespan}{possible}, no order is below {proof['bound']}"
 
 
-def proved(args: argparse.Namespace, experiment: folders.Experiment, own: Row, row: Row,
+def proved(args: Options, experiment: folders.Experiment, own: Row, row: Row,
            known: run.Proof | None) -> run.Proof:
     """Returns what is proved of an instance, with what was known. The order of the CSV is audited first."""
     file = experiment.folder / experiment.stage / own["file"]

@@ -2,7 +2,6 @@
 deviations (RPD). Runs that failed are only counted."""
 from __future__ import annotations
 
-import argparse
 import functools
 import itertools
 import math
@@ -20,12 +19,13 @@ import pandas as pd
 from matplotlib.figure import Figure
 from matplotlib.ticker import NullLocator
 
-from pfs.base.atomic import atomic_write, text_cell
+from pfs.base.atomic import atomic_write
 from pfs.base.benchmarks import canonical, taillard_rows
+from pfs.base.cells import text_cell
 from pfs.base.version import VERSION
-from pfs.experiments import ExperimentError, csv_text, listed, plain, statistics
+from pfs.experiments import ExperimentError, Options, csv_text, listed, plain, statistics
 from pfs.experiments.folders import check_output, folder_of, write_text
-from pfs.experiments.plan import MOST_MAKESPAN, reference_for, reference_of, rows_of
+from pfs.experiments.plan import MOST_MAKESPAN, Row, reference_for, reference_of, rows_of
 from pfs.experiments.run import path_cell, proofs_of
 from pfs.experiments.statistics import SETTING, SIZE, setting_names, size_name
 from pfs.schedules.drawing import picture_of
@@ -64,7 +64,7 @@ WAY_POINTS = 300
 Axis: TypeAlias = Any
 
 
-def report(args: argparse.Namespace) -> int:
+def report(args: Options) -> int:
     """Writes the tables and the plots."""
     if len({*map(os.path.realpath, args.csv)}) < len(args.csv):
         raise ExperimentError("a CSV is named twice, and its runs would count twice")
@@ -73,7 +73,7 @@ def report(args: argparse.Namespace) -> int:
     means = [path for path in args.csv if "rpd" in (columns := rows_of(path, [])[0]) and "instance" not in columns]
     if len(means) == len(args.csv):
         raise ExperimentError("published means are columns beside the runs of another CSV")
-    runs, note = read([path for path in args.csv if path not in means], args.reference)
+    runs, note, basis = read([path for path in args.csv if path not in means], args.reference)
     done = runs.dropna(subset=["makespan"])
     shared, lacking = in_common(done[done["rpd"].notna()])
     compared = statistics.compared(done)
@@ -82,7 +82,9 @@ def report(args: argparse.Namespace) -> int:
     if done.empty:
         print("pfs-experiments report: no run succeeded: nothing to plot", file=sys.stderr)
         return 1
-    best = done[done["order"] != ""].sort_values(["instance", "makespan"]).drop_duplicates("instance")
+    best = pd.concat([done[done["order"] != ""], proved_orders(done)]).sort_values(["instance", "makespan"],
+                                                                                  kind="stable")
+    best = best.drop_duplicates("instance")
     for name, table in (("instances", by_instance(done)), ("best", best[["instance", "method", "makespan", "order"]])):
         if len(table):
             write_text(args.folder / f"{name}.csv", csv_of(cells_of(table)))
@@ -91,7 +93,7 @@ def report(args: argparse.Namespace) -> int:
         if len(table):
             texts.append(write_table(args.folder / name, table, text))
     if len(shared):
-        write_sizes(shared, [*map(published, means)], args.folder, lacking)
+        write_sizes(shared, [*map(published, means)], args.folder, lacking, basis)
     elif lacking:
         print(f"pfs-experiments report: no table of sizes: {plain(lacking)}", file=sys.stderr)
     plot(done, shared, args.folder, args.format, args.width, args.dpi, not args.no_title)
@@ -101,17 +103,24 @@ def report(args: argparse.Namespace) -> int:
 
 # Reading
 
-def read(paths: list[str], reference_path: str | None) -> tuple[pd.DataFrame, str]:
-    """Returns the runs of all CSVs with their RPD, and a note on their reference. Unknown values of a setting are -1,
-    other ones NaN. The size of an instance may come from any of the CSVs."""
+def proved_orders(done: pd.DataFrame) -> pd.DataFrame:
+    """Returns the orders that `prove` has found next to the CSVs, audited, as runs of their own."""
+    rows = [{"instance": instance, "path": path, "line": "", "method": f"proved by pfs {VERSION}",
+             "makespan": str(proof["makespan"]), "order": f"{folder_of(path).name}/{proof['order']}", "given": name}
+            for path, name, instance in dict.fromkeys(zip(done["path"], done["given"], done["instance"]))
+            for proof in [proofs_by(path).get(name, {})] if proof.get("order")]
+    orders, _ = orders_of([row | {"instance": row["given"]} for row in rows]) if rows else ([], [])
+    return pd.DataFrame([row | {"order": order, "makespan": float(row["makespan"])} for row, order in zip(rows, orders)
+                         if order])
+
+
+def read(paths: list[str], reference_path: str | None) -> tuple[pd.DataFrame, str, str]:
+    """Returns the runs of all CSVs with their RPD, a note on their reference, and which it is. Unknown values of a
+    setting are -1, other ones NaN. The size of an instance may come from any of the CSVs."""
     stems = [pathlib.Path(path).stem for path in paths]
     runs = pd.concat([read_one(path, path if stems.count(stem) > 1 else stem) for path, stem in zip(paths, stems)],
                      ignore_index=True)
-    try:
-        from pfs.experiments.audit import orders_of
-        runs["order"], runs["own_bound"] = orders_of(runs["row"].tolist())
-    except ImportError:  # no library, and no audit
-        runs["order"], runs["own_bound"] = "", float("nan")
+    runs["order"], runs["own_bound"] = orders_of(runs["row"].tolist())
     runs["audited"] = runs["order"] != ""
     lasts = runs["instance"].map(canonical)
     if len(paths) > 1 and runs["instance"].groupby([runs["method"], lasts]).nunique().max() == 1:
@@ -136,7 +145,16 @@ def read(paths: list[str], reference_path: str | None) -> tuple[pd.DataFrame, st
     if len(below):
         names = [f"{markdown(name)} {span:.15g} ({reference:.0f})" for name, span, reference in below.itertuples()]
         note += f"\nBelow the reference: {listed(names)}."
-    return runs.fillna(dict.fromkeys(GROUP, -1)), note
+    return runs.fillna(dict.fromkeys(GROUP, -1)), note, basis
+
+
+def orders_of(rows: list[Row]) -> tuple[list[str], list[float]]:
+    """Returns the audited orders and the bounds of rows; none without the library."""
+    try:
+        from pfs.experiments.audit import orders_of
+    except ImportError:
+        return [""] * len(rows), [float("nan")] * len(rows)
+    return orders_of(rows)
 
 
 @functools.cache
@@ -158,7 +176,8 @@ def read_one(path: str, name: str) -> pd.DataFrame:
     read = pd.DataFrame({**usual, **row, "path": path, "line": str(line)}
                         for line, row in enumerate(rows_of(path, ["instance", "makespan"]), 2))
     read.loc[read["status"].ne("ok") | read["makespan"].eq(""), ["makespan", "cells", "gap_percent", "seconds"]] = ""
-    runs = read[["instance", "seed", "path"]].assign(given=read["instance"], method=read["method"].replace("", name), row=read.to_dict("records"))
+    runs = read[["instance", "seed", "path"]].assign(given=read["instance"], method=read["method"].replace("", name),
+                                                     row=read.to_dict("records"))
     runs = runs.join(numbers_in(read, list(GREATEST), path))
     runs["way"] = [way_of(*row) for row in zip(read["trajectory"], runs["makespan"], read["line"], read["path"])]
     runs.loc[runs["time_factor"].notna(), "rounds"] = float("nan")
@@ -254,27 +273,53 @@ def by_instance(done: pd.DataFrame) -> pd.DataFrame:
         mean_rpd_percent=("rpd", "mean")).reset_index()
 
 
-def write_sizes(shared: pd.DataFrame, published: list[pd.DataFrame], folder: pathlib.Path, lacking: str) -> None:
+def write_sizes(shared: pd.DataFrame, published: list[pd.DataFrame], folder: pathlib.Path, lacking: str,
+                basis: str) -> None:
     """Writes the mean RPD, a row for each size and a column for each setting, and means of the columns that have all
-    sizes."""
-    means = shared.pivot_table(index=SIZE, columns=SETTING, values="rpd")
-    means = means.set_axis(setting_names(list(means.columns)), axis=1)
+    sizes. Where there are several seeds, it is the mean of their means, with the standard deviation of these."""
+    by_seed = shared.pivot_table(index=[*SIZE, "seed"], columns=SETTING, values="rpd").groupby(level=SIZE)
+    means, spread = by_seed.mean(), by_seed.std()
+    means, spread = (each.set_axis(setting_names(list(means.columns)), axis=1) for each in (means, spread))
     for each in published:
         means = means.join(each, rsuffix=" (published)")
-    rows = [[size_name(size), *(cell("rpd", value) for value in row)]
-            for size, row in zip(means.index, means.to_numpy())]
-    rows.append(["mean", *(cell("rpd", value) for value in means.mean(skipna=False))])
     heads = ["jobs×machines", *means.columns]
-    stated = sorted(set(shared.loc[~shared["audited"], "method"]).union(*published))
-    note = " ".join(["Mean RPD, %.", *filter(None, [lacking]),
-                     *([f"Not audited, only stated: {', '.join(stated)}."] if stated else [])])
-    write_text(folder / "sizes.csv", csv_of([heads, *rows]))
+    last = ["mean", *(cell("rpd", value) for value in means.mean(skipna=False))]
+    write_text(folder / "sizes.csv", csv_of([heads, *([size_name(size), *(cell("rpd", value) for value in row)]
+                                                      for size, row in zip(means.index, means.to_numpy())), last]))
+    rows = [[size_name(size), *(with_spread(means.at[size, name], spread[name].get(size, float("nan"))
+                                            if name in spread else float("nan")) for name in means.columns)]
+            for size in means.index] + [last]
+    note = sizes_note(shared, published, lacking, basis)
     write_text(folder / "sizes.md", markdown_of([heads, *rows], markdown(note)))
     lines = [" & ".join(row) + r" \\" for row in [map(stacked, heads), *(map(latex, row) for row in rows)]]
     write_text(folder / "sizes.tex", "\n".join([
         r"% \usepackage{booktabs}", rf"\begin{{tabular}}{{l{'r' * (len(heads) - 1)}}}", r"\toprule", lines[0],
         r"\midrule", *lines[1:-1], r"\midrule", lines[-1], r"\bottomrule", r"\end{tabular}",
         rf"{{\par\footnotesize {latex(note)}\par}}", ""]))
+
+
+def with_spread(mean: float, spread: float) -> str:
+    """Returns a mean with its standard deviation, if there is one.
+
+    >>> with_spread(0.4834, 0.0376), with_spread(0.5, float("nan"))
+    ('0.483 ± 0.038', '0.500')
+    """
+    return cell("rpd", mean) + (f" ± {cell('rpd', spread)}" if spread == spread else "")
+
+
+def sizes_note(shared: pd.DataFrame, published: list[pd.DataFrame], lacking: str, basis: str) -> str:
+    """Returns what the table of sizes is of."""
+    counts = shared.groupby(SIZE)["instance"].nunique()
+    instances = (f"{counts.iloc[0]} instances of each size" if counts.nunique() == 1 else
+                 "instances: " + ", ".join(f"{size_name(size)} {count}" for size, count in counts.items()))
+    seeds = shared.loc[shared["rounds"] != 0, "seed"].nunique()
+    factors = sorted({*shared["time_factor"]} - {-1})
+    made = [instances, f"{seeds} seeds: the mean of their means ± its standard deviation" if seeds > 1 else "1 seed",
+            *([f"time factor {', '.join(f'{factor:g}' for factor in factors)}"] if factors else []), f"pfs {VERSION}"]
+    stated = sorted(set(shared.loc[~shared["audited"], "method"]).union(*published))
+    text = f"Mean RPD, %, {basis.removeprefix('RPD: ').replace('`', '')} {'; '.join(made).capitalize()}."
+    return " ".join([text, *filter(None, [lacking]),
+                     *([f"Not audited, only stated: {', '.join(stated)}."] if stated else [])])
 
 
 def write_table(path: pathlib.Path, table: pd.DataFrame, note: str) -> str:

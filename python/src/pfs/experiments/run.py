@@ -1,7 +1,6 @@
 """Runs with GNU parallel, here and over ssh, and on a Slurm cluster; their results and the CSV; and audits of it."""
 from __future__ import annotations
 
-import argparse
 import contextlib
 import csv
 import fcntl
@@ -20,8 +19,8 @@ import sys
 from collections.abc import Container, Iterator
 from typing import Required, TypedDict
 
-from pfs.base.atomic import FORMULA, text_cell
-from pfs.experiments import ExperimentError, csv_text, folders, one, plain
+from pfs.base.cells import FORMULA, text_cell
+from pfs.experiments import ExperimentError, Options, csv_text, folders, one, plain
 from pfs.experiments.folders import Experiment, prepare, write_text
 from pfs.experiments.plan import Reference, Row, reference_for, rows_of
 
@@ -54,7 +53,7 @@ SECONDS_A_CELL = 1e-9
 MOST_RUNS, SHARED_SECONDS, LEAST_PROCESSES = 25, 1, 8
 
 
-def begin(args: argparse.Namespace, program: str, package: str) -> tuple[Experiment, list[Row]]:
+def begin(args: Options, program: str, package: str) -> tuple[Experiment, list[Row]]:
     """Returns the prepared experiment and the runs that are left to be made, whose numbers the file `left` has then,
     each with those of the runs that it makes too. Those that were lost come last: what has killed one may kill it
     again, and the later runs of its process are left."""
@@ -85,7 +84,7 @@ def together(left: list[Row]) -> list[list[Row]]:
     return [sorted(runs, key=lambda run: -float(run["limit"] or 0)) for runs in groups.values()]
 
 
-def run(args: argparse.Namespace) -> int:
+def run(args: Options) -> int:
     """Makes the runs that are left with GNU parallel, by default one per core at a time, and writes the CSV. The files
     of results have new names at each start, so no process of an earlier start writes into one of a later start."""
     experiment, runs = begin(args, "parallel", "parallel")
@@ -137,7 +136,7 @@ def parallel(folder: pathlib.Path, words: list[str]) -> None:
 
 # Slurm
 
-def slurm(args: argparse.Namespace) -> int:
+def slurm(args: Options) -> int:
     """Submits an array that makes the runs that are left, waits for it and for earlier ones of the same CSV, and writes
     the CSV. After an interruption the array continues."""
     experiment, left = begin(args, "sbatch", "slurm-client")
@@ -231,7 +230,7 @@ def path_cell(path: str) -> str:
     return f"./{path}" if FORMULA.match(path) else path
 
 
-def status(args: argparse.Namespace) -> int:
+def status(args: Options) -> int:
     """Writes the CSV of the runs that have ended so far, while the others continue."""
     return 1 if any(gather(folders.started(args.csv), args.csv)) else 0
 
@@ -293,7 +292,7 @@ def proofs_of(folder: pathlib.Path) -> dict[str, Proof]:
     except ValueError:
         found = None
     if not isinstance(found, dict) or not all(
-            isinstance(each, dict) and [type(each.get(key)) for key in ("bound", "makespan", "order")] == [int, int, str]
+            isinstance(each, dict) and [*map(type, map(each.get, ("bound", "makespan", "order")))] == [int, int, str]
             and 0 <= each["bound"] <= each["makespan"] for each in found.values()):
         raise ExperimentError(f"{path} is damaged: delete it, and prove again")
     return found
@@ -355,7 +354,7 @@ def order_name(run: Row) -> str:
 
 # Audits
 
-def check(args: argparse.Namespace) -> int:
+def check(args: Options) -> int:
     """Audits each order of a CSV again, with the copies of the instances next to it, and compares the output with the
     CSV. Prints each wrong row, and the number of orders."""
     rows = [row for row in rows_of(args.csv, NEEDED) if row["status"] == "ok"]

@@ -9,8 +9,8 @@ import os
 from typing import Any
 
 from pfs.base.atomic import atomic_write
+from pfs.base.faults import Refused
 from pfs.binding import library as c
-from pfs.commands.cli import Refused
 from pfs.files.instances import bytes_of
 from pfs.shops.instance import Instance, digest_of
 from pfs.shops.search import Search

@@ -13,9 +13,10 @@ from typing import NamedTuple, TypeAlias
 
 import numpy as np
 
-from pfs.base.atomic import atomic_write, csv_writer, text_cell, text_in_cell
+from pfs.base.atomic import atomic_write
+from pfs.base.cells import csv_writer, text_cell, text_in_cell
 from pfs.base.faults import TableFault, cell_name
-from pfs.base.names import CLOCK, amount, seconds_in
+from pfs.base.units import CLOCK, amount, seconds_in
 from pfs.base.workbooks import OPTIONS_SHEET, Workbook, cell_of, write_workbook
 from pfs.binding import library as c
 from pfs.binding.validate import Order, checked_int

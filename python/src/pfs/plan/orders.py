@@ -10,7 +10,7 @@ from collections.abc import Collection, Iterator, Sequence
 from itertools import chain, islice, takewhile
 from typing import NamedTuple, TypeVar
 
-from pfs.base.atomic import text_cell, text_in_cell
+from pfs.base.cells import text_cell, text_in_cell
 from pfs.base.faults import TableFault
 from pfs.base.languages import words_of
 from pfs.base.names import shown

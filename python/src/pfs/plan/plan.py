@@ -8,7 +8,8 @@ from typing import Any, NamedTuple
 
 import numpy as np
 
-from pfs.base.names import CLOCK, amount, shown
+from pfs.base.names import shown
+from pfs.base.units import CLOCK, amount
 from pfs.plan.orders import AFTER_ORDER, FoundOrder, filled
 from pfs.schedules.calendar import Calendar, Clock, begin_of, needed, text_of
 from pfs.schedules.report import JOBS, Report, rows_of, text_table
@@ -46,7 +47,7 @@ class Plan:
     @cached_property
     def table(self) -> str:
         """What tells its table from others."""
-        return digest_of(self.shop)
+        return digest_of(self.shop)[:16]
 
     def know(self, least: int, table: str) -> bool:
         """Use a bound that is known of a table, unless that is another one. Return whether it is used."""
@@ -54,12 +55,12 @@ class Plan:
         return self.least == least
 
     def hold(self, jobs: Iterable[int]) -> None:
-        """Hold these jobs too, behind those that are held."""
+        """Hold these jobs too, after those that are held."""
         self.held = list(dict.fromkeys([*self.held, *jobs]))
         self.order = list(dict.fromkeys([*self.held, *self.order]))
 
     def fill(self) -> list[int]:
-        """Insert the jobs that have no place at their best ones behind the held jobs, and return them."""
+        """Insert the jobs that have no place at their best ones after the held jobs, and return them."""
         return filled(self.shop, self.order, len(self.held))
 
     def search(self, seed: int = 0, method: str = "iterated-greedy", take: int | None = None,
@@ -164,9 +165,9 @@ class Plan:
         """The plan of what is left at a moment, and the names of the jobs that are finished. Machines are down until
         these moments. The jobs that have begun are held, and the first ones of this order; jobs without a place come
         last. The order is in a file, if there is a path."""
-        shop, order, now = self.shop, self.order, begin_of(moment)
+        shop, order = self.shop, self.order
         clock = self.clock or Clock(needed(self.calendar, "`now`"), shop)
-        calendar = clock.calendar
+        calendar, now = clock.calendar, begin_of(moment)
         if now < calendar.begin:
             raise ValueError(f"`now`: {now} is before `begin`")
         at = clock.time_at(now)

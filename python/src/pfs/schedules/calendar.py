@@ -9,16 +9,15 @@ from collections import defaultdict
 from collections.abc import Collection, Iterable, Iterator
 from datetime import date, datetime, timedelta
 from itertools import accumulate, count, islice, pairwise, takewhile
-from typing import TYPE_CHECKING, TypeAlias
+from typing import TYPE_CHECKING, Protocol, TypeAlias
 
 import numpy as np
 
 from pfs.base.languages import ENGLISH, Say
-from pfs.base.names import seconds_in
+from pfs.base.units import seconds_in
 
 if TYPE_CHECKING:
     from pfs.binding.validate import Order
-    from pfs.shops.instance import Instance
 
 # All times here are whole microseconds. Moments count from a Monday.
 SECOND = 1_000_000
@@ -162,10 +161,17 @@ def needed(calendar: Calendar | None, what: str) -> Calendar:
     return calendar
 
 
+class Timed(Protocol):
+    """What has times in a unit."""
+
+    unit: str
+    decimals: int
+
+
 class Clock:
     """The moments of an instance's times. Raises a `ValueError` if its unit isn't one of time."""
 
-    def __init__(self, calendar: Calendar, shop: Instance, say: Say = ENGLISH) -> None:
+    def __init__(self, calendar: Calendar, shop: Timed, say: Say = ENGLISH) -> None:
         if not isinstance(calendar, Calendar):
             raise TypeError(f"calendar must be a Calendar, not {calendar!r}")
         seconds = seconds_in(shop.unit)

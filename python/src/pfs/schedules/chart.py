@@ -13,8 +13,9 @@ from typing import TYPE_CHECKING, Any
 
 from pfs.base.atomic import atomic_write
 from pfs.base.languages import Say, words_of
-from pfs.base.names import CLOCK, shown
+from pfs.base.names import shown
 from pfs.base.optional import optional
+from pfs.base.units import CLOCK
 from pfs.binding.validate import BOOLS, checked_int
 from pfs.schedules.calendar import Calendar, Clock, day_of, text_of
 from pfs.schedules.drawing import DPI, IDLE, UNIT, WIDTH, Chart, draw, ink, picture_of

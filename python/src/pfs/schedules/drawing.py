@@ -14,7 +14,7 @@ from functools import cached_property
 from typing import Any, TypeAlias
 
 from pfs.base.languages import ENGLISH, Say
-from pfs.base.names import CLOCK, amount
+from pfs.base.units import CLOCK, amount
 
 # Sizes are in inches, those of letters in points.
 WIDTH, DPI = 12.0, 110

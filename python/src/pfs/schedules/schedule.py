@@ -8,10 +8,11 @@ from typing import TYPE_CHECKING, Any
 
 import numpy as np
 
-from pfs.base.atomic import atomic_write, csv_writer, text_cell
+from pfs.base.atomic import atomic_write
+from pfs.base.cells import csv_writer, text_cell
 from pfs.base.languages import words_of
-from pfs.base.names import amount
 from pfs.base.optional import optional
+from pfs.base.units import amount
 from pfs.base.workbooks import cell_of, write_workbook
 from pfs.binding import library as c
 from pfs.binding.validate import Order, checked_int

@@ -12,17 +12,17 @@ import numpy as np
 import numpy.typing as npt
 
 from pfs.base.atomic import atomic_write
-from pfs.base.faults import Interrupted
-from pfs.base.names import CLOCK, frame_names, is_frame, names_of
+from pfs.base.names import frame_names, is_frame, names_of
+from pfs.base.units import CLOCK
 from pfs.binding import library as c
 from pfs.binding.library import LENGTHS, SHORT, Prepared, quick_insert, quick_insertions, quick_makespan
-from pfs.binding.validate import (BOOLS, MOST_UINT32, Jobs, Order, array_copy, as_uint32, as_uint32_bytes, checked_int,
-                           checked_jobs, checked_order, checked_times, jobs_error, layout_number, wrong_job)
+from pfs.binding.validate import (BOOLS, MOST_UINT32, Order, array_copy, as_uint32, as_uint32_bytes, checked_int,
+                                  checked_jobs, checked_order, checked_times, jobs_error, layout_number, wrong_job)
 from pfs.schedules.schedule import Schedule
 from pfs.shops.bounds import bound_by_pairs
 from pfs.shops.proof import solve_and_prove
 from pfs.shops.search import Event, Progress, Search, limit_of, number_of, rule_of
-from pfs.shops.solution import Solution, as_order
+from pfs.shops.solution import Interrupted, Jobs, Sequence, Solution, as_order
 
 # Three times as fast as calling the class of a named tuple.
 _new_tuple = tuple.__new__
@@ -32,13 +32,6 @@ class Place(NamedTuple):
     """A place for a job, and the makespan with the job there."""
 
     place: int
-    makespan: int
-
-
-class Sequence(NamedTuple):
-    """A sequence of jobs, an array of int64, and its makespan."""
-
-    jobs: Order
     makespan: int
 
 

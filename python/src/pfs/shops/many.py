@@ -9,13 +9,12 @@ from collections.abc import Callable, Collection, Iterable, Mapping
 from concurrent.futures import Future, ThreadPoolExecutor, as_completed
 from typing import Any, TypeAlias
 
-from pfs.base.faults import InterruptedAll
 from pfs.binding import library as c
 from pfs.binding.validate import checked_int, checked_order
 from pfs.shops.instance import Instance
 from pfs.shops.proof import proved
 from pfs.shops.search import Limits, Search, is_true, limit_of, solve
-from pfs.shops.solution import Solution, as_order
+from pfs.shops.solution import InterruptedAll, Solution, as_order
 
 MOST_WORKERS = 1_000
 

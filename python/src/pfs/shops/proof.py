@@ -12,10 +12,9 @@ from typing import TYPE_CHECKING, Any
 
 import numpy as np
 
-from pfs.base.faults import Interrupted
 from pfs.binding import library as c
 from pfs.shops.search import Progress, Search, solve, stop_of
-from pfs.shops.solution import Solution
+from pfs.shops.solution import Interrupted, Solution
 
 if TYPE_CHECKING:
     from pfs.shops.instance import Instance

@@ -8,11 +8,10 @@ from typing import TYPE_CHECKING, Any, Protocol, TypeAlias
 
 import numpy as np
 
-from pfs.base.faults import Interrupted
 from pfs.binding import library as c
 from pfs.binding.rounds import MOST_TEMPERATURE, TIES, USUAL, Iterating, Pace, Part, Rounds, iterating
-from pfs.binding.validate import BOOLS, Jobs, as_uint32_bytes, checked_int, checked_order, jobs_error
-from pfs.shops.solution import Improvement, Solution, as_order
+from pfs.binding.validate import BOOLS, as_uint32_bytes, checked_int, checked_order, jobs_error
+from pfs.shops.solution import Improvement, Interrupted, Jobs, Solution, as_order
 
 if TYPE_CHECKING:
     from pfs.shops.instance import Instance

@@ -1,9 +1,9 @@
-"""The class `Solution`: an order with its makespan."""
+"""Orders with their makespans: what searches return, also when they are interrupted."""
 from __future__ import annotations
 
 import os
 from ctypes import byref, c_size_t, create_string_buffer
-from typing import TYPE_CHECKING, Any, NamedTuple
+from typing import TYPE_CHECKING, Any, NamedTuple, TypeAlias
 
 import numpy as np
 import numpy.typing as npt
@@ -129,6 +129,50 @@ class Solution:
         """Write an order file, which ``pfs check`` and :func:`pfs.read_order` read. An existing file is replaced
         atomically."""
         atomic_write(path, self.to_text().encode())
+
+
+class Sequence(NamedTuple):
+    """A sequence of jobs, an array of int64, and its makespan."""
+
+    jobs: Order
+    makespan: int
+
+
+# An order, or a sequence of some of the jobs, counted from 0.
+Jobs: TypeAlias = "npt.ArrayLike | Solution | Sequence"
+
+
+class Interrupted(KeyboardInterrupt):
+    """A search was interrupted, usually by Ctrl-C. It is a ``KeyboardInterrupt``.
+
+    Attributes
+    ----------
+    solution : Solution
+        The best order so far. Continue with ``solve(.., start=solution, first=solution.rounds)``.
+    """
+
+    def __init__(self, solution: Solution) -> None:
+        self.solution = solution
+
+    def __str__(self) -> str:
+        return f"interrupted after round {self.solution.rounds}, makespan {self.solution.makespan}"
+
+
+class InterruptedAll(KeyboardInterrupt):
+    """The searches of :func:`pfs.solve_all` were interrupted, usually by Ctrl-C. It is a ``KeyboardInterrupt``.
+
+    Attributes
+    ----------
+    found : dict
+        The best solution so far for each ``(i, seed)``, where ``i`` is the index of an instance. The same call with
+        ``found=stop.found`` runs the searches that are left.
+    """
+
+    def __init__(self, found: dict[tuple[int, int], Solution]) -> None:
+        self.found = found
+
+    def __str__(self) -> str:
+        return f"interrupted after {len(self.found)} searches"
 
 
 def as_order(given: Any, shop: Instance, what: str = "order") -> Any:

@@ -186,7 +186,6 @@ def rest(given: dict[str, Any], folder: str) -> dict[str, Any]:
     """The table of what is left of a plan at a moment, with its order and the date from which on it is planned."""
     (plan, _), down = plan_from(given), field(given, "down", dict, {})
     until = [(machine, field(down, machine, str, "")) for machine in down]
-    needed(plan.calendar, "`now`")
     left, done = plan.rest(field(given, "at", str, ""), until)
     rows = [*enumerate(tables.text_rows(left.shop), 1)]
     return {"rows": rows, "delimiter": ",", "order": left.shop.job_names, "held": len(left.held), "done": done,

@@ -1,9 +1,9 @@
-use Rattle.std.proofs.Common.{◌+◌, ◌-◌, refl, ap, arith}
+use Rattle.std.proofs.Common.{◌≡◌, ◌+◌, ◌-◌, ◌∙◌, refl, ap, arith}
 use Rattle.pfs_base.specs.FlowShop.{FlowShop, time_of, total_of}
+use Rattle.pfs_base.proofs.Published.Partly.{partly_more, partly_none}
 use Rattle.pfs_audit.specs.Private.Sums.{least_among, load_among}
 use Rattle.pfs_audit.proofs.Published.Ranges.{greatest-range-more, sum_by-below-more, total_of-is}
 use Rattle.pfs_audit.proofs.Published.SumLemmas.{least_among-more, load_among-more, load_among-le, time_on-le, time_on-parts}
-use Rattle.pfs_audit.proofs.Published.SumLemmas.{have_none, have_more}
 use Rattle.pfs_audit.proofs.bounds.add_job.Goals as goal
 
 pub loop-machine-init : goal.loop-machine-init
@@ -16,17 +16,17 @@ loop-machine-init c =
     record {
       longest = omega arith;
       through = refl;
-      before = have_none (λ jobs. least_among shop jobs 0) shop.machines job c.args.sums.now.before sums.before;
-      load = have_none (load_among shop) shop.machines job c.args.sums.now.load sums.load;
-      after = have_none (λ jobs machine. least_among shop jobs (machine + 1) (shop.machines - (machine + 1)))
-          shop.machines job c.args.sums.now.after sums.after;
+      before = partly_none _ _ _ sums.before.every;
+      load = partly_none _ _ _ sums.load.every;
+      after = partly_none _ _ _ sums.after.every;
     }
 
 pub overflow_add-sums : goal.overflow_add-sums
 overflow_add-sums c =
     let shop = c.args.instance.now.shop in
     let machine = c.loop-machine.machine in
-    let load = c.loop-machine.invariant.load.to_do machine (omega arith) (omega arith) in
+    let load = c.loop-machine.invariant.load.to_do machine (omega arith)
+    ∙ c.requires.sums.load.values machine (omega arith) in
     let short = load_among-le shop c.machines-machine-end.ensures.within c.args.job machine in
     omega arith
 
@@ -53,6 +53,9 @@ loop-machine-preserved c =
     let job = c.args.job in
     let machine = c.loop-machine.machine in
     let sums = c.loop-machine.sums in
+    let given = c.requires.sums in
+    let old = c.args.sums.now in
+    let more_jobs = job + 1 in
     let invariant = c.loop-machine.invariant in
     let parts = time_on-parts shop job machine (omega arith) in
     let more = sum_by-below-more (time_of shop job) machine in
@@ -61,16 +64,16 @@ loop-machine-preserved c =
     let least_before = least_among-more shop job 0 machine in
     let load = load_among-more shop job machine in
     let least_after = least_among-more shop job (machine + 1) (shop.machines - (machine + 1)) in
-    let old_before = invariant.before.to_do machine (omega arith) (omega arith) in
-    let old_load = invariant.load.to_do machine (omega arith) (omega arith) in
-    let old_after = invariant.after.to_do machine (omega arith) (omega arith) in
+    let old_before = invariant.before.to_do machine (omega arith) ∙ given.before.values machine (omega arith) in
+    let old_load = invariant.load.to_do machine (omega arith) ∙ given.load.values machine (omega arith) in
+    let old_after = invariant.after.to_do machine (omega arith) ∙ given.after.values machine (omega arith) in
     record {
       longest = invariant.longest;
       through = omega arith;
-      before = have_more (λ jobs. least_among shop jobs 0) shop.machines job machine _ sums.before
-          (omega arith) invariant.before (omega arith);
-      load = have_more (load_among shop) shop.machines job machine _ sums.load
-          (omega arith) invariant.load (omega arith);
-      after = have_more (λ jobs at. least_among shop jobs (at + 1) (shop.machines - (at + 1)))
-          shop.machines job machine _ sums.after (omega arith) invariant.after (omega arith);
+      before = partly_more (λ at time. time ≡ least_among shop more_jobs 0 at) shop.machines machine _ old.before
+          sums.before (omega arith) invariant.before (omega arith);
+      load = partly_more (λ at load. load ≡ load_among shop more_jobs at) shop.machines machine _ old.load
+          sums.load (omega arith) invariant.load (omega arith);
+      after = partly_more (λ at time. time ≡ least_among shop more_jobs (at + 1) (shop.machines - (at + 1)))
+          shop.machines machine _ old.after sums.after (omega arith) invariant.after (omega arith);
     }

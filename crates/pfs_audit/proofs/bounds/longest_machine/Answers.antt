@@ -8,11 +8,7 @@ pub loop-machine-preserved : goal.loop-machine-preserved
 loop-machine-preserved c =
     let shop = c.args.instance.now.shop in
     let machine = c.loop-machine.machine in
-    let within = c.machines-machine-end.ensures.within in
     let more = greatest-range-more (machine_bound shop) machine in
-    let before = least_among-is shop within shop.jobs 0 machine (omega arith) (omega arith) in
-    let left = shop.machines - (machine + 1) in
-    let after = least_among-is shop within shop.jobs (machine + 1) left (omega arith) (omega arith) in
     let here = c.requires.before.values machine (omega arith) in
     let load = c.requires.load.values machine (omega arith) in
     let there = c.requires.after.values machine (omega arith) in
@@ -22,20 +18,28 @@ pub overflow_add-sums : goal.overflow_add-sums
 overflow_add-sums c =
     let shop = c.args.instance.now.shop in
     let machine = c.loop-machine.machine in
+    let within = c.machines-machine-end.ensures.within in
     let here = c.requires.before.values machine (omega arith) in
     let load = c.requires.load.values machine (omega arith) in
+    let sizes = within.sizes in
+    let first = least_among-is shop within shop.jobs 0 machine sizes.some_job (omega (arith, sizes)) in
     let small = least_among-le shop shop.jobs 0 machine in
-    let short = load_among-le shop c.machines-machine-end.ensures.within shop.jobs machine in
+    let short = load_among-le shop within shop.jobs machine in
     omega arith
 
 pub overflow_add-sums-in-loop-machine : goal.overflow_add-sums-in-loop-machine
 overflow_add-sums-in-loop-machine c =
     let shop = c.args.instance.now.shop in
     let machine = c.loop-machine.machine in
+    let within = c.machines-machine-end.ensures.within in
     let here = c.requires.before.values machine (omega arith) in
     let load = c.requires.load.values machine (omega arith) in
     let there = c.requires.after.values machine (omega arith) in
+    let sizes = within.sizes in
+    let first = least_among-is shop within shop.jobs 0 machine sizes.some_job (omega (arith, sizes)) in
     let small = least_among-le shop shop.jobs 0 machine in
-    let short = load_among-le shop c.machines-machine-end.ensures.within shop.jobs machine in
+    let short = load_among-le shop within shop.jobs machine in
+    let last = least_among-is shop within shop.jobs (machine + 1) (shop.machines - (machine + 1)) sizes.some_job
+    (omega (arith, sizes)) in
     let rest = least_among-le shop shop.jobs (machine + 1) (shop.machines - (machine + 1)) in
     omega arith

@@ -6,9 +6,9 @@ use Rattle.pfs_exact.specs.declared.parts.Part.{Part}
 use Rattle.pfs_exact.specs.MostNodes.{most_nodes}
 use Rattle.pfs_exact.specs.Parts.{IsPart}
 use Rattle.pfs_exact.specs.Private.Nodes.{AreEnds, Continues, Every, IsChild, IsDone, IsNode, IsOpen, IsSome, NoneShorter, goal_of, put_of, taken_of}
-use Rattle.pfs_exact.proofs.Entered.{few_nodes, none_entered, one_more}
+use Rattle.pfs_exact.proofs.SearchedChildren.{few_nodes, none_entered, one_more}
 use Rattle.pfs_exact.proofs.Searching.{below_less, children_first, children_more, continues_at, continues_on, goal_less, left_continues, left_done, on_ok}
-use Rattle.pfs_exact.proofs.Sides.{every_children, put_ends, put_length, put_some, taken_again}
+use Rattle.pfs_exact.proofs.GrownEnds.{every_children, put_ends, put_length, put_some, taken_again}
 use Rattle.pfs_exact.proofs.branch.+branch.Goals as goal
 
 pub returns-then-work-eq0-clause-work : goal.returns-then-work-eq0-clause-work

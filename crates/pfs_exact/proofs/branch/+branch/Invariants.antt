@@ -1,6 +1,6 @@
 use Rattle.std.proofs.Common.{◌≡◌, ℕ, ◌+◌, ◌-◌, ◌<◌, List, ◌++◌, length}
 use Rattle.pfs_exact.specs.Private.Nodes.{AreChildren, Continues, IsWork, goal_of}
-use Rattle.pfs_exact.proofs.Entered.{AreEntered}
+use Rattle.pfs_exact.proofs.SearchedChildren.{AreEntered}
 use Rattle.pfs_exact.proofs.Searching.{below}
 use Rattle.pfs_exact.proofs.branch.+branch.Given as goal
 

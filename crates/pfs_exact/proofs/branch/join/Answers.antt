@@ -1,5 +1,5 @@
 use Rattle.std.proofs.Common.{◌++◌, take, Contains, subst, arith}
-use Rattle.pfs_exact.proofs.Sides.{later_absent}
+use Rattle.pfs_exact.proofs.GrownEnds.{later_absent}
 use Rattle.pfs_exact.proofs.branch.join.Goals as goal
 
 pub insert_at-requires-clause-absent : goal.insert_at-requires-clause-absent

@@ -1,9 +1,9 @@
 use Rattle.std.proofs.Common.{◌≡◌, ℕ, ◌-◌, max, [], ◌∷◌, ◌++◌, get_or, ap, sym, subst, arith, add-one}
 use Rattle.pfs_base.specs.FlowShop.{time_of}
 use Rattle.pfs_exact.specs.Private.Nodes.{IsRest}
-use Rattle.pfs_exact.proofs.Machines.{IsBefore, IsReady, before_zero, before_on, end_at, front_left, front_rest}
-use Rattle.pfs_exact.proofs.Machines.{ready_zero, ready_end, ready_on, bound_at}
-use Rattle.pfs_exact.proofs.Sides.{to_none}
+use Rattle.pfs_exact.proofs.MachineBounds.{IsBefore, IsReady, before_zero, before_on, end_at, front_left, front_rest}
+use Rattle.pfs_exact.proofs.MachineBounds.{ready_zero, ready_end, ready_on, bound_at}
+use Rattle.pfs_exact.proofs.GrownEnds.{to_none}
 use Rattle.pfs_exact.proofs.children.bound_ahead.Goals as goal
 
 pub loop-machine-init : goal.loop-machine-init

@@ -1,6 +1,6 @@
 use Rattle.std.proofs.Common.{ℕ, List, [], ◌∷◌, ◌++◌}
 use Rattle.pfs_exact.specs.Private.Nodes.{AreLeast, IsNode, NoneShorter}
-use Rattle.pfs_exact.proofs.Machines.{IsBefore, IsReady}
+use Rattle.pfs_exact.proofs.MachineBounds.{IsBefore, IsReady}
 use Rattle.pfs_exact.proofs.children.bound_ahead.Given as goal
 
 abbrev pub invariant-loop-machine : goal.invariant-loop-machine

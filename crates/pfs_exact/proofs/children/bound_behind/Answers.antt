@@ -1,9 +1,9 @@
 use Rattle.std.proofs.Common.{◌≡◌, ℕ, suc, ◌+◌, ◌-◌, ◌<◌, max, ◌∷◌, get_or, ap, subst, arith}
 use Rattle.pfs_base.specs.FlowShop.{time_of}
 use Rattle.pfs_exact.specs.Private.Nodes.{IsLeast}
-use Rattle.pfs_exact.proofs.Machines.{IsAfter, IsTail, after-le, after_max, after_on, after_rest, bound_behind_at}
-use Rattle.pfs_exact.proofs.Machines.{tail_after, tail_max, tail_on}
-use Rattle.pfs_exact.proofs.Sides.{to_none}
+use Rattle.pfs_exact.proofs.MachineBounds.{IsAfter, IsTail, after-le, after_max, after_on, after_rest, bound_behind_at}
+use Rattle.pfs_exact.proofs.MachineBounds.{tail_after, tail_max, tail_on}
+use Rattle.pfs_exact.proofs.GrownEnds.{to_none}
 use Rattle.pfs_exact.proofs.children.bound_behind.Goals as goal
 
 pub loop-turn-init : goal.loop-turn-init

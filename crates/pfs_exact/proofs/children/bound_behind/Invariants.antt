@@ -1,6 +1,6 @@
 use Rattle.std.proofs.Common.{ℕ, ◌-◌, ◌<◌, List, ◌∷◌}
 use Rattle.pfs_exact.specs.Private.Nodes.{AreLeast, IsNode, NoneShorter}
-use Rattle.pfs_exact.proofs.Machines.{IsAfter, IsTail}
+use Rattle.pfs_exact.proofs.MachineBounds.{IsAfter, IsTail}
 use Rattle.pfs_exact.proofs.children.bound_behind.Given as goal
 
 abbrev pub invariant-loop-turn : goal.invariant-loop-turn

@@ -3,7 +3,7 @@ use Rattle.std.proofs.lemmas.List.{get_or-replicate, length-append, length-repli
 use Rattle.pfs_base.specs.FlowShop.{time_of}
 use Rattle.pfs_exact.specs.declared.prove.TheConstants.{MOST_PROVED_MACHINES}
 use Rattle.pfs_exact.specs.Private.Nodes.{IsOpen}
-use Rattle.pfs_exact.proofs.Arrays.{partly_none, partly_more}
+use Rattle.pfs_base.proofs.Published.Partly.{partly_none, partly_more}
 use Rattle.pfs_exact.proofs.eights.least_times_of.Goals as goal
 
 pub loop-machine-init : goal.loop-machine-init

@@ -2,7 +2,7 @@ use Rattle.std.proofs.Common.{ℕ, ◌<◌, ◌≤◌, replicate}
 use Rattle.pfs_base.specs.FlowShop.{time_of}
 use Rattle.pfs_exact.specs.declared.prove.TheConstants.{MOST_PROVED_MACHINES}
 use Rattle.pfs_exact.specs.Private.Nodes.{IsOpen}
-use Rattle.pfs_exact.proofs.Arrays.{Partly}
+use Rattle.pfs_base.proofs.Published.Partly.{Partly}
 use Rattle.pfs_exact.proofs.eights.least_times_of.Given as goal
 
 abbrev pub invariant-loop-machine : goal.invariant-loop-machine

@@ -1,6 +1,6 @@
 use Rattle.std.proofs.Common.{false, arith}
 use Rattle.std.proofs.Math.ListN.{length-set}
-use Rattle.pfs_exact.proofs.Sides.{cleared_none, cleared_more}
+use Rattle.pfs_exact.proofs.GrownEnds.{cleared_none, cleared_more}
 use Rattle.pfs_exact.proofs.ends.clear.Goals as goal
 
 pub loop-place-init : goal.loop-place-init

@@ -1,5 +1,5 @@
 use Rattle.std.proofs.Common.{◌≡◌, get_or, refl, arith}
-use Rattle.pfs_exact.proofs.Arrays.{partly_none, partly_more}
+use Rattle.pfs_base.proofs.Published.Partly.{partly_none, partly_more}
 use Rattle.pfs_exact.proofs.node.copy.Goals as goal
 
 pub loop-at-init : goal.loop-at-init

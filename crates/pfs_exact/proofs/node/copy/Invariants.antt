@@ -1,5 +1,5 @@
 use Rattle.std.proofs.Common.{◌≡◌, get_or}
-use Rattle.pfs_exact.proofs.Arrays.{Partly}
+use Rattle.pfs_base.proofs.Published.Partly.{Partly}
 use Rattle.pfs_exact.proofs.node.copy.Given as goal
 
 abbrev pub invariant-loop-at : goal.invariant-loop-at

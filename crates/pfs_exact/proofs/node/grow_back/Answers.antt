@@ -1,8 +1,8 @@
 use Rattle.std.proofs.Common.{◌≡◌, ℕ, suc, ◌+◌, ◌-◌, ◌∷◌, max, List, get_or, ap, subst, arith}
 use Rattle.pfs_base.specs.FlowShop.{time_of}
 use Rattle.pfs_exact.specs.Private.Nodes.{AreRests, IsRest}
-use Rattle.pfs_exact.proofs.Arrays.{partly_none, partly_more}
-use Rattle.pfs_exact.proofs.Machines.{IsAfter, after-le, after_max, after_on, after_rest, back_rest}
+use Rattle.pfs_base.proofs.Published.Partly.{partly_none, partly_more}
+use Rattle.pfs_exact.proofs.MachineBounds.{IsAfter, after-le, after_max, after_on, after_rest, back_rest}
 use Rattle.pfs_exact.proofs.node.grow_back.Goals as goal
 
 pub loop-turn-init : goal.loop-turn-init
@@ -40,5 +40,5 @@ loop-turn-preserved c =
           (after front back are));
     }
 
-pub returns : goal.returns
-returns c = λ front back are turn small. c.loop-turn.invariant.rests.done turn (omega arith) front back are
+pub returns-clause-rests : goal.returns-clause-rests
+returns-clause-rests c = λ front back are turn small. c.loop-turn.invariant.rests.done turn (omega arith) front back are

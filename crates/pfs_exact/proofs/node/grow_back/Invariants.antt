@@ -1,7 +1,7 @@
 use Rattle.std.proofs.Common.{ℕ, ◌-◌, ◌<◌, ◌∷◌, List}
 use Rattle.pfs_exact.specs.Private.Nodes.{AreRests, IsRest}
-use Rattle.pfs_exact.proofs.Arrays.{Partly}
-use Rattle.pfs_exact.proofs.Machines.{IsAfter}
+use Rattle.pfs_base.proofs.Published.Partly.{Partly}
+use Rattle.pfs_exact.proofs.MachineBounds.{IsAfter}
 use Rattle.pfs_exact.proofs.node.grow_back.Given as goal
 
 abbrev pub invariant-loop-turn : goal.invariant-loop-turn

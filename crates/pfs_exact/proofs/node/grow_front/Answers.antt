@@ -1,7 +1,7 @@
 use Rattle.std.proofs.Common.{ℕ, List, get_or, sym, subst, arith, add-one}
 use Rattle.pfs_exact.specs.Private.Nodes.{AreStarts}
-use Rattle.pfs_exact.proofs.Arrays.{partly_none, partly_more}
-use Rattle.pfs_exact.proofs.Machines.{IsBefore, IsEnd, before_zero, before_on, end_at, front_start}
+use Rattle.pfs_base.proofs.Published.Partly.{partly_none, partly_more}
+use Rattle.pfs_exact.proofs.MachineBounds.{IsBefore, IsEnd, before_zero, before_on, end_at, front_start}
 use Rattle.pfs_exact.proofs.node.grow_front.Goals as goal
 
 pub loop-machine-init : goal.loop-machine-init
@@ -28,6 +28,6 @@ loop-machine-preserved c =
           (omega arith) invariant.starts end;
     }
 
-pub returns : goal.returns
-returns c = λ front back are machine small. front_start c.args.instance.now.shop front c.args.job back machine _
+pub returns-clause-starts : goal.returns-clause-starts
+returns-clause-starts c = λ front back are machine small. front_start c.args.instance.now.shop front c.args.job back machine _
     (c.loop-machine.invariant.starts.done machine (omega arith) front back are)

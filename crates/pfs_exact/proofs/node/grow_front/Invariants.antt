@@ -1,7 +1,7 @@
 use Rattle.std.proofs.Common.{ℕ, List}
 use Rattle.pfs_exact.specs.Private.Nodes.{AreStarts}
-use Rattle.pfs_exact.proofs.Arrays.{Partly}
-use Rattle.pfs_exact.proofs.Machines.{IsBefore, IsEnd}
+use Rattle.pfs_base.proofs.Published.Partly.{Partly}
+use Rattle.pfs_exact.proofs.MachineBounds.{IsBefore, IsEnd}
 use Rattle.pfs_exact.proofs.node.grow_front.Given as goal
 
 abbrev pub invariant-loop-machine : goal.invariant-loop-machine

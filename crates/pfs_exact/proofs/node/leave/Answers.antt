@@ -1,6 +1,6 @@
 use Rattle.std.proofs.Common.{◌-◌, ◌≤◌, get_or, arith}
 use Rattle.pfs_base.specs.FlowShop.{time_of}
-use Rattle.pfs_exact.proofs.Arrays.{partly_none, partly_more}
+use Rattle.pfs_base.proofs.Published.Partly.{partly_none, partly_more}
 use Rattle.pfs_exact.proofs.node.leave.Goals as goal
 
 pub loop-machine-init : goal.loop-machine-init
@@ -13,5 +13,5 @@ loop-machine-preserved c =
     partly_more (λ m time. time ≤ get_or c.args.left.now m 0 - time_of shop c.args.job m) shop.machines machine _
     c.args.next.now c.loop-machine.next (omega arith) c.loop-machine.invariant (omega arith)
 
-pub returns : goal.returns
-returns c = λ machine small. c.loop-machine.invariant.done machine (omega arith)
+pub returns-clause-left : goal.returns-clause-left
+returns-clause-left c = λ machine small. c.loop-machine.invariant.done machine (omega arith)

@@ -1,6 +1,6 @@
 use Rattle.std.proofs.Common.{◌-◌, ◌≤◌, get_or}
 use Rattle.pfs_base.specs.FlowShop.{time_of}
-use Rattle.pfs_exact.proofs.Arrays.{Partly}
+use Rattle.pfs_base.proofs.Published.Partly.{Partly}
 use Rattle.pfs_exact.proofs.node.leave.Given as goal
 
 abbrev pub invariant-loop-machine : goal.invariant-loop-machine

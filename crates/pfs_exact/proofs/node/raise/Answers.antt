@@ -1,7 +1,7 @@
 use Rattle.std.proofs.Common.{◌≡◌, ℕ, suc, ◌-◌, get_or, ap, subst, arith}
 use Rattle.pfs_exact.specs.Private.Nodes.{IsLeast, IsRest, IsStart}
 use Rattle.pfs_exact.proofs.Arrays.{each_set}
-use Rattle.pfs_exact.proofs.Machines.{start_on, rest_on}
+use Rattle.pfs_exact.proofs.MachineBounds.{start_on, rest_on}
 use Rattle.pfs_exact.proofs.node.raise.Goals as goal
 
 pub loop-machine-preserved : goal.loop-machine-preserved

@@ -3,7 +3,7 @@ use Rattle.std.proofs.lemmas.Bool.{cases_lt}
 use Rattle.pfs_base.specs.FlowShop.{time_of}
 use Rattle.pfs_audit.specs.Bound.{time_on}
 use Rattle.pfs_audit.proofs.Published.Ranges.{sum_by-range-suc}
-use Rattle.pfs_exact.proofs.Arrays.{partly_none, partly_more}
+use Rattle.pfs_base.proofs.Published.Partly.{partly_none, partly_more}
 use Rattle.pfs_exact.proofs.pairs.extend.Goals as goal
 
 pub loop-job-init : goal.loop-job-init

@@ -1,6 +1,6 @@
 use Rattle.std.proofs.Common.{suc, ◌-◌, ◌≤◌}
 use Rattle.pfs_audit.specs.Bound.{time_on}
-use Rattle.pfs_exact.proofs.Arrays.{Partly}
+use Rattle.pfs_base.proofs.Published.Partly.{Partly}
 use Rattle.pfs_exact.proofs.pairs.extend.Given as goal
 
 abbrev pub invariant-loop-job : goal.invariant-loop-job

@@ -3,7 +3,8 @@ use Rattle.std.proofs.Common.{arith}
 use Rattle.std.proofs.lemmas.List.{get_or-take, get_or-drop, length-drop, length-take-le}
 use Rattle.pfs_base.specs.Joins.{greatest_join}
 use Rattle.pfs_insert.specs.Exchange.{heaviest_front, heaviest_back}
-use Rattle.pfs_insert.specs.Private.Rows.{head_of, AreValues}
+use Rattle.pfs_base.specs.Heads.{head_of}
+use Rattle.pfs_insert.specs.Private.Rows.{AreValues}
 use Rattle.pfs_insert.proofs.Exchange.{exchange_law}
 use Rattle.pfs_insert.proofs.Joined.{greatest_front_and_back, join_is, sum_short}
 use Rattle.pfs_insert.proofs.RowSteps.{row_fits}
