@@ -260,7 +260,7 @@ static void wrong_calls(void) {
     CALL(PFS_REPEATED, pfs_construct(shop, BEST, 2, (uint32_t[]){0, 3}, 2, out.list, 4, &out.makespan));
     CALL(PFS_LENGTH, pfs_construct_ties(shop, UINT32_MAX, OUTSIDE, 3, in_place(OUTSIDE), 2, &out.makespan));
     CALL(PFS_JOB, pfs_construct_ties(shop, UINT32_MAX, BEST, 1, in_place(OUTSIDE), 3, &out.makespan));
-    CALL(PFS_REPEATED, pfs_construct_ties(shop, UINT32_MAX, (uint32_t[]){0, 3}, 2, in_place(BEST), 3, &out.makespan));
+    CALL(PFS_REPEATED, pfs_construct_ties(shop, UINT32_MAX, (uint32_t[]){1, 3}, 2, in_place(BEST), 3, &out.makespan));
     CALL(PFS_TIES, pfs_construct_ties(shop, UINT32_MAX, BEST + 2, 1, in_place(BEST), 3, &out.makespan));
     CALL(PFS_JOB, pfs_local_search(shop, OUTSIDE, 3, 999, in_place(BEST), 2, &out.makespan));
     CALL(PFS_PASSES, pfs_local_search(shop, BEST, 3, PFS_MOST_PASSES + 1, in_place(BEST), 3, &out.makespan));

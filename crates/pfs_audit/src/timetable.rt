@@ -162,7 +162,7 @@ fn room_for(alloc: Global, many: usize) -> Result<Vec<u64>, AuditFault>
     }
 }
 
-// Adds the starts and the ends of the next row, for which there is room.
+// Adds the starts and the ends of the next row, for which there is room. `add_head` of `pfs_base` has no starts.
 fn add_row(
     instance: &Instance,
     order: &Order,

@@ -4,7 +4,7 @@ use Rattle.std.proofs.Common.{get_or, insert, nat_eq, nat_lt, refl, ap, zero, su
 use Rattle.std.specs.List.{list_any}
 use Rattle.std.specs.List.Sorted.{IsPermutation}
 use Rattle.pfs_iterate.specs.Alone.{by_ties}
-use Rattle.pfs_iterate.specs.Iterated.{improved, moved as moved_by}
+use Rattle.pfs_iterate.specs.Iterated.{settled, moved as moved_by}
 use Rattle.pfs_iterate.specs.Laws.{FirstLaw}
 use Rattle.pfs_iterate.specs.declared.options.Options.{Options}
 use Rattle.pfs_iterate.specs.declared.options.TheConstants.{TIES_FIRST}
@@ -78,7 +78,7 @@ pass_same first shop (job ∷ list) jobs distinct among =
     (λ k d lt. Contains-permutation jobs next (get_or list k d) same (rest k d lt)))
 
 once : (shop : FlowShop) (options : Options) (list jobs : List ℕ)
-    → improved shop options list 1 jobs ≡ fold (moved_by shop options) jobs list
+    → settled shop options list 1 jobs ≡ fold (moved_by shop options) jobs list
 once shop options list jobs =
     elim (cases_Bool (nat_lt (makespan shop (fold (moved_by shop options) jobs list)) (makespan shop jobs))) [
       | inl shorter ↦ rw shorter refl
@@ -86,7 +86,7 @@ once shop options list jobs =
     ]
 
 pub pass_is : FirstLaw → (shop : FlowShop) (list jobs : List ℕ) → IsSequence shop.jobs jobs
-    → All (λ job. Contains jobs job) list → improved shop (by_ties TIES_FIRST) list 1 jobs ≡ pass_over shop list jobs
+    → All (λ job. Contains jobs job) list → settled shop (by_ties TIES_FIRST) list 1 jobs ≡ pass_over shop list jobs
 pass_is first shop list jobs distinct among =
     once shop (by_ties TIES_FIRST) list jobs ∙ pass_same first shop list jobs distinct among
 

@@ -9,7 +9,6 @@ ghost use Rattle.pfs_order.specs.Sequence.{IsSequence};
 ghost use Rattle.pfs_iterate.specs.Alone.{IsBuilt, IsChosen};
 ghost use Rattle.pfs_iterate.specs.Iterated.{movable};
 ghost use Rattle.pfs_iterate.specs.Rounds.{CanIterate, IsIterated};
-ghost use Rattle.pfs_search.specs.Search.{IsSearchOf};
 ghost use Rattle.pfs_search.specs.Solution.{IsImproved, IsNeh};
 ghost use Rattle.pfs_search.specs.Greedy.{passes_over};
 ghost use Rattle.pfs_c.specs.Inserting.{AreInsertions, insertions_fault};
@@ -20,16 +19,16 @@ ghost use Rattle.pfs_c.specs.Validation.{insertion_fault};
 ghost use Rattle.pfs_c.specs.Private.Outcomes.{Validates};
 
 use crate::given::{copy_sequence, validate, validate_insertion, validate_jobs};
+use crate::iterating::IterateOptions;
 use crate::many::{fill_makespans, validate_many};
 use crate::numbers::CallFault;
-use crate::iterating::IterateOptions;
 use crate::rows::span_of;
 use crate::searching::RoundsOptions;
 use pfs_base::{Bench, Instance, MOST_JOBS, MOST_PASSES, MOST_ROUNDS};
 use pfs_batch::Batch;
 use pfs_insert::Placed;
 use pfs_iterate::{Iterated, MOST_TIES, Makespans, TIES_FIRST};
-use pfs_search::{Rounds, Search};
+use pfs_search::Rounds;
 use std::alloc::Global;
 use std::marker::Model;
 
@@ -44,7 +43,6 @@ pub(crate) struct Searched {
 #[derive(Drop)]
 pub(crate) struct Kept {
     instance: Instance,
-    search: Search,
     // Whether the makespan that the search keeps is that of its order.
     is_span_known: bool,
     iterated: Iterated,
@@ -57,7 +55,6 @@ impl Model for Kept {
     ghost use Rattle.pfs_base.specs.FlowShop.{FlowShop, IsWithin};
     ghost use Rattle.pfs_base.specs.Limits.{limits};
     ghost use Rattle.pfs_base.specs.Paths.{makespan};
-    ghost use Rattle.pfs_search.specs.Search.{IsSearchOf};
     ghost use Rattle.pfs_iterate.specs.Rounds.{IsIteratedFor};
 
     ghost Value = { FlowShop };
@@ -66,8 +63,8 @@ impl Model for Kept {
 
     ghost invariant = { λ a. record {
       within : IsWithin limits a.instance.shop;
-      search : IsSearchOf a.instance.shop a.search;
-      span : IsTrue a.is_span_known → a.search.kept.span ≡ makespan a.instance.shop a.search.kept.order;
+      span : IsTrue a.is_span_known
+          → a.iterated.work.search.kept.span ≡ makespan a.instance.shop a.iterated.work.search.kept.order;
       iterated : IsIteratedFor a.instance.shop a.iterated;
       batch : IfSome a.batch (λ batch. batch ≡ a.instance.shop);
     } };
@@ -79,9 +76,6 @@ impl Kept {
         ensures made { IfOk result (λ made. made ≡ instance.shop) }
         ensures memory { IfErr result (λ why. why ≡ CallFault.Memory) }
     {
-        let Ok(search) = Search::new(alloc, &instance) else {
-            return Err(CallFault::Memory);
-        };
         let Ok(iterated) = Iterated::new(alloc, &instance) else {
             return Err(CallFault::Memory);
         };
@@ -90,7 +84,6 @@ impl Kept {
         };
         Ok(Kept {
             instance,
-            search,
             is_span_known: false,
             iterated,
             batch,
@@ -119,12 +112,16 @@ impl Kept {
         ensures found { IsNeh self.old order.new result.span result.cells }
         ensures shop { self.new ≡ self.old }
     {
-        self.search.cells = 0;
-        let bench = self.search.neh(alloc, self.instance.metered());
+        self.iterated.work.search.cells = 0;
+        let bench = self
+            .iterated
+            .work
+            .search
+            .neh(alloc, self.instance.metered());
         self.is_span_known = true;
-        copy_sequence(self.search.kept.order.seq(), order);
+        copy_sequence(self.iterated.work.search.kept.order.seq(), order);
         Searched {
-            span: bench.reveal(self.search.kept.span),
+            span: bench.reveal(self.iterated.work.search.kept.span),
             cells: bench.cells(),
         }
     }
@@ -158,16 +155,20 @@ impl Kept {
         };
         let start_span = self.span_of(order);
         // The cells of the makespan that the rounds begin with are not theirs, so another bench counts them.
-        self.search
+        self.iterated
+            .work
+            .search
             .start(&mut self.instance.metered(), order, start_span);
-        self.search.cells = 0;
+        self.iterated.work.search.cells = 0;
         let bench = self
+            .iterated
+            .work
             .search
             .rounds(alloc, self.instance.metered(), options.first, rounds);
         self.is_span_known = true;
-        copy_sequence(self.search.kept.order.seq(), order);
+        copy_sequence(self.iterated.work.search.kept.order.seq(), order);
         Ok(Searched {
-            span: bench.reveal(self.search.kept.span),
+            span: bench.reveal(self.iterated.work.search.kept.span),
             cells: bench.cells(),
         })
     }
@@ -191,10 +192,8 @@ impl Kept {
             current.old best.old current.new result.current best.new result.best }
         ensures shop { self.new ≡ self.old }
     {
-        self.is_span_known = false;
         self.iterated.rounds(
             &self.instance,
-            &mut self.search,
             &options.rounds,
             options.accept,
             options.stay,
@@ -208,8 +207,10 @@ impl Kept {
         requires { IsSequence self.now.jobs sequence.now }
         ensures { result ≡ makespan self.now sequence.now }
     {
-        if self.is_span_known && self.search.kept.order.seq().as_slice() == sequence {
-            self.instance.metered().reveal(self.search.kept.span)
+        if self.is_span_known && self.iterated.work.search.kept.order.seq().as_slice() == sequence {
+            self.instance
+                .metered()
+                .reveal(self.iterated.work.search.kept.span)
         } else {
             span_of(&self.instance, sequence)
         }
@@ -224,6 +225,8 @@ impl Kept {
         validate_insertion(self.instance.jobs(), sequence, job)?;
         let mut bench = self.instance.metered();
         let best = self
+            .iterated
+            .work
             .search
             .best(&mut bench, sequence, job as usize, &mut []);
         Ok(Placed {
@@ -246,12 +249,8 @@ impl Kept {
     {
         validate_insertion(self.instance.jobs(), sequence, job)?;
         validate(ties <= MOST_TIES, CallFault::Ties)?;
-        self.is_span_known = false;
         let job = job as usize;
-        let (instance, search) = (&self.instance, &mut self.search);
-        Ok(self
-            .iterated
-            .choose(instance, search, ties, sequence, job))
+        Ok(self.iterated.choose(&self.instance, ties, sequence, job))
     }
 
     /// Inserts more jobs into the first `count` of `order`, and makes passes over a list of jobs until one makes the
@@ -272,17 +271,8 @@ impl Kept {
         ensures built { IsBuilt self.old ties (take count order.old) more.now list.now passes order.new result }
         ensures shop { self.new ≡ self.old }
     {
-        self.is_span_known = false;
-        self.iterated.build(
-            &self.instance,
-            &mut self.search,
-            ties,
-            more,
-            list,
-            passes,
-            order,
-            count,
-        )
+        self.iterated
+            .build(&self.instance, ties, more, list, passes, order, count)
     }
 
     /// Writes the makespan with a job at each place of a sequence.
@@ -302,6 +292,8 @@ impl Kept {
         validate_insertion(self.instance.jobs(), sequence, job)?;
         let mut bench = self.instance.metered();
         let _best = self
+            .iterated
+            .work
             .search
             .best(&mut bench, sequence, job as usize, makespans);
         Ok(())

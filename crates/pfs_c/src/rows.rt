@@ -5,8 +5,8 @@ ghost use Rattle.pfs_base.specs.Paths.{makespan};
 ghost use Rattle.pfs_order.specs.Sequence.{IsSequence};
 ghost use Rattle.pfs_c.specs.Private.Rows.{AreRows, IsRow, in_turn};
 
+use pfs_base::heads::{end_after, times_of};
 use pfs_base::{Instance, MOST_MACHINES};
-use pfs_iterate::rows::{end_after, times_of};
 
 // The index, below `count`, that comes at a turn: they go from 0 on, or with `back` from the last one down.
 #[inline(always)]

@@ -19,7 +19,7 @@ module _ (shop : FlowShop) (jobs : List ℕ) (job place : ℕ) (within : place �
   abbrev with_job : List ℕ
   with_job = insert jobs place job
 
-  -- the heads before the job, its times, and those of the jobs behind it
+  -- the heads before the job, its times, and those of the jobs after it
   pub above : (machine : ℕ) → head_of shop with_job place machine ≡ head_of shop jobs place machine
   above machine =
       head_of-same shop with_job jobs place machine (λ row lt. get_or-insert_below jobs place job 0 row lt within)
@@ -122,7 +122,7 @@ inserted_same jobs job place count row small within same inside few =
       ]
     ]
 
--- the total delay needs no job behind the next one
+-- the total delay needs no job after the next one
 pub delay_in_front : (shop : FlowShop) (jobs : List ℕ) (job place count : ℕ) → count ≤ length jobs → place ≤ length jobs
     → (place < length jobs → place < count) → (place ≡ length jobs → count ≡ length jobs)
     → total_delay shop (take count jobs) job place ≡ total_delay shop jobs job place
