@@ -68,7 +68,7 @@ pub(crate) fn copy(from: &[u64], to: &mut [u64], many: usize)
     }
 }
 
-/// The starts after one more of the first jobs.
+/// The starts after one more of the first jobs. They are bounds, so a sum that does not fit is a bound too.
 pub fn grow_front(instance: &Instance, starts: &[u64], job: usize, next: &mut [u64])
     requires job { job < instance.now.shop.jobs }
     requires starts { instance.now.shop.machines ≤ length starts.now }
