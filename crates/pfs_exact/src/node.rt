@@ -1,8 +1,8 @@
 //! What is known of the orders of a node, machine by machine.
 ghost use Rattle.std.specs.Prelude.{◌≡◌, ℕ, ◌+◌, ◌-◌, ◌<◌, ◌≤◌, List, [], ◌∷◌, ◌++◌, length, slice_index};
 ghost use Rattle.pfs_base.specs.FlowShop.{time_of};
-ghost use Rattle.pfs_exact.specs.Private.Nodes.{AreEnds, AreLeast, AreLeft, AreOpen, AreRests, AreStarts};
-ghost use Rattle.pfs_exact.specs.Private.Nodes.{IsNode, IsOpen, put_of};
+ghost use Rattle.pfs_exact.specs.Private.Nodes.{AreEnds, AreLeast, AreLeft, AreOpen, IsNode, IsOpen, put_of};
+ghost use Rattle.pfs_exact.specs.Times.{AreRests, AreStarts};
 ghost use Rattle.pfs_exact.specs.declared.ends.Ends.{Ends};
 
 use crate::ends::Ends;
