@@ -16,6 +16,7 @@ WORDS = {
     "shift": ("--shift", '"Shifts"'),
     "days": ("--days", '"Days"'),
     "closed": ("--closed", '"Holidays"'),
+    "rest": ("--rest", '"Plan the rest"'),
     "now": ("--now", '"Now"'),
     "down": ("--down", '"down until"'),
 }

@@ -34,6 +34,7 @@ from pfs.commands.cli import CommandLine, Misused, ShowVersion, number, report, 
 from pfs.files.instances import content_of, read, read_order
 from pfs.files.state import State
 from pfs.files.tables import Table, described, table_of, write_table
+from pfs.plan.dates import dates_in, is_of_another
 from pfs.plan.orders import FoundOrder, moved, numbers_by_name, order_in, stated_end
 from pfs.plan.plan import Limits, Plan, calendar_of, is_provable
 from pfs.schedules.calendar import Calendar, Clock, begin_of, dates_of, days_of, needed, shifts_of, text_of as date_text
@@ -214,9 +215,11 @@ def begun_plan(given: argparse.Namespace, shop: Instance, calendar: Calendar | N
         return Plan(shop, found, given.hold, calendar, given.language)
     if calendar is None or given.order is None and given.now:
         raise ValueError("--now needs --begin and --order, and --down needs --begin")
-    plan, done = Plan(shop, found, 0, calendar, given.language).rest(
-        given.now or given.begin, given.down, given.hold, given.order)
-    assert plan.calendar is not None
+    before = Plan(shop, found, 0, calendar, given.language)
+    plan, done = before.rest(given.now or given.begin, given.down, given.hold, given.order)
+    assert plan.calendar is not None and before.clock is not None
+    if given.now and given.order:
+        tell(given.order, is_of_another(shop, dates_in(shop, found, given.order), before.clock))
     begin, held = plan.calendar.begin, len(plan.held)
     written(sys.stderr, f"from {date_text(begin, 0 if begin.second else -1)} on: {len(done)} finished, {held} held, "
                         f"{plan.shop.jobs - held} to plan\n")

@@ -140,6 +140,13 @@ class Calendar:
         """When this working time is over: after a shift its end, and not the start of the next one."""
         return self._within(worked, True)
 
+    def worked_by(self, moment: datetime) -> int:
+        """The working time from the begin up to a moment."""
+        worked, until = 0, (moment - MONDAY) // timedelta(microseconds=1)
+        for start, end in takewhile(lambda span: span[0] < until, self._open()):
+            worked += min(end, until) - start
+        return worked
+
     def _breaks(self, end: int, say: Say) -> Iterator[tuple[int, str]]:
         """Return the working times before `end` at which a shift or a day begins, each with the day if it is the first
         of its date: `Mon 2026-11-30`."""
@@ -203,11 +210,13 @@ class Clock:
 
     def time_at(self, moment: datetime) -> int:
         """The first time, in whole seconds of work, at which the moment has come."""
-        worked, until = 0, (moment - MONDAY) // timedelta(microseconds=1)
-        for start, end in takewhile(lambda span: span[0] < until, self.calendar._open()):
-            worked += min(end, until) - start
         step: int = self.scale * SECOND // math.gcd(self.scale * SECOND, self.tick)
-        return -(-worked * self.scale // (self.tick * step)) * step
+        return -(-self.calendar.worked_by(moment) * self.scale // (self.tick * step)) * step
+
+    def between(self, start: datetime, end: datetime) -> int:
+        """The nearest time to the working time between two moments."""
+        worked = self.calendar.worked_by(end) - self.calendar.worked_by(start)
+        return (2 * worked * self.scale + self.tick) // (2 * self.tick)
 
     def breaks(self, end: int) -> list[tuple[float, str]]:
         """The times up to `end` at which a shift or a day begins, with the day; none if there are too many for a
