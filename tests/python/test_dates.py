@@ -41,8 +41,11 @@ def test_the_past_of_a_schedule_is_what_its_dates_say(folder: pathlib.Path) -> N
         assert plan(folder, *WEEK[:3], shift, *NOW, status=3) == ([], (
             "pfs: monday.csv: 'table' ends on 'saw' at 2026-12-01 07:10, but by this table and these shifts at "
             f"{moment}: {HINT}\n"))
-    # By dates from Tuesday on, or from now on, the past stays.
-    assert plan(folder, *WEEK, "--shift", "2026-12-01:06:00-18:00", *NOW)[1] == before[1]
+    # By date, or from Tuesday on, the past stays, and box ends today.
+    assert before[0][-5] == "end 2026-12-02 06:10"
+    for tuesday in ("2026-12-01", "2026-12-01.."):
+        got = plan(folder, *WEEK, "--shift", f"{tuesday}:06:00-18:00", *NOW)
+        assert (got[0][-5], got[1]) == ("end 2026-12-01 14:10", before[1])
     # Another begin, and a table whose job takes longer.
     assert plan(folder, "--begin", "2026-11-30T07:00", *WEEK[2:], *NOW, status=3)[1] == (
         f"pfs: monday.csv: 'chair' ends on 'saw' at 2026-11-30 10:10, but by this table and these shifts at "
@@ -165,12 +168,17 @@ class Floor:
     def __init__(self, chance: random.Random) -> None:
         self.chance = chance
         self.usual = chance.choice([[(360, 840)], [(360, 540), (570, 870)], [(0, 1_440)]])
-        self.days = {day: [] if day % 7 > 4 else self.usual for day in range(DAYS)}
+        # The shifts from a day on, and those of each day.
+        self.since = {0: self.usual}
+        self.days = {day: self.usual_on(day) for day in range(DAYS)}
         self.machines = ["saw", "drill", "paint"][:chance.randint(1, 3)]
         # What each job takes in all, with repairs, and how much of it is done; which machine worked when, and on what.
         self.needs: dict[Key, int] = {}
         self.done: dict[Key, int] = defaultdict(int)
         self.worked: dict[str, dict[int, str]] = defaultdict(dict)
+
+    def usual_on(self, day: int) -> list[tuple[int, int]]:
+        return [] if day % 7 > 4 else self.since[max(since for since in self.since if since <= day)]
 
     def is_open(self, minute: int) -> bool:
         return any(start <= minute % DAY < end for start, end in self.days[minute // DAY])
@@ -187,6 +195,10 @@ class Floor:
     def change(self, now: int) -> None:
         """Another calendar, from the end of this day's shifts or from the next day on."""
         day = now // DAY
+        if self.chance.random() < .4:
+            first = day + self.chance.randint(1, 3)
+            self.since[first] = self.chance.choice([[(360, 1_110)], [(300, 600), (660, 900)]])
+            self.days |= {later: self.usual_on(later) for later in range(first, DAYS)}
         for later in range(day + 1, min(day + 5, DAYS)):
             if self.chance.random() < .3:
                 self.days[later] = self.chance.choice([[], [(420, 1_100)], [(360, 540), (600, 870), (900, 1_000)]])
@@ -199,7 +211,9 @@ class Floor:
         words = ["--begin", text_at(begin), "--days", "mon-fri", "--shift", usual]
         for day, shifts in self.days.items():
             date = text_at(day * DAY)[:10]
-            if shifts != ([] if day % 7 > 4 else self.usual):
+            if day and day in self.since:
+                words += ["--shift", f"{date}..:{','.join(shift_text(*each) for each in self.since[day])}"]
+            if shifts != self.usual_on(day):
                 words += ["--shift", f"{date}:{','.join(shift_text(*each) for each in shifts)}"] if shifts else [
                     "--closed", date]
         return words

@@ -441,7 +441,8 @@ def add_date_words(add: Callable[..., object]) -> None:
     add("--shift", type=checked(shifts_of), action="append", default=[], metavar="FROM-TO",
         help="when there is work, such as 06:00-14:00, also across midnight; several with commas, or the option more "
         "than once; by default around the clock. A day of the week or a date has other shifts by fri:06:00-12:00 or "
-        "2026-12-05:06:00-12:00. Operations stop at the end of a shift and continue with the next one; this changes "
+        "2026-12-05:06:00-12:00. From a date on, 2026-12-02..:06:00-18:30 changes the shifts of the days without own "
+        "ones, and 2026-12-02..fri:06:00-14:00 those of Fridays. Operations stop at the end of a shift and continue with the next one; this changes "
         "neither the order nor the makespan")
     add("--days", type=checked(days_of), action="append", default=[], metavar="DAYS",
         help="the days on which the other shifts start, such as mon-fri or mon,wed,fri; by default all")
