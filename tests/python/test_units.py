@@ -217,6 +217,14 @@ TOTALS = ("Total,SUBTOTAL,Grand total,Summe,Summen,Sum,sums,Zwischensumme,Gesamt
           "\u00d8").split(",")
 QUANTITIES = ("Menge Anzahl St\u00fcck Stueck St\u00fcckzahl Stk. Quantity Qty Pieces pcs Quantit\u00e9 Qt\u00e9 "
               "Cantidad Aantal").split()
+CAPACITIES = ("Kapazit\u00e4t,KAPAZITAET [h],verf\u00fcgbar,Verfuegbare,Verf\u00fcgbarkeit (min),Auslastung %,"
+              "Auslastung:,Capacity,capacity h,Available,Availability,Utilization,utilisation [%],Kapazit\u00e4t Std."
+              ).split(",")
+OF_EXPORTS = ("Losgr\u00f6\u00dfe,LOSGROESSE,Los,Lot,lot size,Lot-Size [pcs],batch size,Auftragsmenge,Sollmenge,"
+              "Restmenge (Stk),R\u00fcsten,R\u00fcstzeit,Ruestzeit [min],R\u00fcst.,Setup,set-up,Set up time,Prio,"
+              "Priorit\u00e4t,priority,Kst,KST.,Kostenstelle,cost center,KW,Kalenderwoche,Week,Pos,Pos.,Position,"
+              "Termin,Liefertermin,Endtermin,due,Due date").split(",")
+MACHINES = "Los 1,Pos 7,KW 49,Dues,Lotte,Prior,Setups 2,Terminal,Capacity test,Polierstation,R\u00fcttler".split(",")
 JOBS = ("Job Jobs job# Order Orders Workorder WO Work-Order Auftrag Auftr\u00e4ge Fertigungsauftrag Auftrags-Nr. FA OF "
         "Ordre Ordres Commande Pedido Pedidos Ordine Ordini Part Parts Lot Lots Los Teil Teile Artikel Item Items Pos "
         "Position ID Nr. No. N\u00b0 Number Nummer Num\u00e9ro Job_ID Pos:").split()
@@ -232,6 +240,17 @@ def test_words_of_sums_and_jobs(tmp_path: pathlib.Path) -> None:
                 pfs.read_csv(path)
             path.write_text(f"job;saw;{'drill' if is_row else f'x{name}'}\na;1;2\nx{name if is_row else ''};7;9\n")
             assert pfs.read_csv(path).jobs == 2, name
+    for names, said, is_row in ((CAPACITIES, "looks like no job: leave it out, or allow", True),
+                                (CAPACITIES + OF_EXPORTS, "looks like no machine: leave the column out", False)):
+        for name in names:
+            path.write_text(f"job;saw;{'drill' if is_row else name}\na;1;2\n{name if is_row else 'b'};7;9\n")
+            with pytest.raises(pfs.TableFault, match=said):
+                pfs.read_csv(path)
+            assert pfs.read_csv(path, allow_totals=True).jobs == 2
+            assert is_row or pfs.read_csv(path, machines=[name]).times.tolist() == [[2], [9]]
+    for name in MACHINES:
+        path.write_text(f"job;saw;{name}\na;1;2\n{name};7;9\n")
+        assert pfs.read_csv(path).machine_names == ("saw", name)
     for name in JOBS:
         path.write_text(f"{name};1;2\n7;1;2\n8;7;9\n")
         assert pfs.read_csv(path).job_names == ("7", "8"), name

@@ -65,6 +65,17 @@ QUANTITIES = (r"|menge|anzahl|st(?:\u00fc|ue)ck(?:zahl)?|stk|quantity|qty|pieces
               r"|aantal")
 NO_JOB = re.compile(rf"(?:{TOTALS})(?!\w)", re.IGNORECASE)
 NO_TIMES = re.compile(rf"(?:{TOTALS}{QUANTITIES})(?!\w)", re.IGNORECASE)
+# Whole names, perhaps with a unit, of rows that are no job, and of columns of an export that are no machine.
+CAPACITIES = (r"kapazit(?:\u00e4|ae)t(?:en)?|capacity|verf(?:\u00fc|ue)gbar\w*|available|availability|auslastung"
+              r"|utili[sz]ation")
+SET_UPS = r"r(?:\u00fc|ue)st(?:en|zeit(?:en)?)?|set[ -]?ups?(?:[ -]?times?)?"
+OF_EXPORTS = (rf"{CAPACITIES}|{SET_UPS}|los(?:gr(?:\u00f6|oe)(?:\u00df|ss)en?)?|(?:lot|batch)(?:[ -]?sizes?)?"
+              r"|(?:auftrags|bestell|fertigungs|ist|los|plan|rest|soll)mengen?"
+              r"|prio(?:rit(?:\u00e4t|aet|y))?|kst|kostenstelle|cost cent(?:er|re)|kw|kalenderwoche|week|pos(?:ition)?"
+              r"|\w*termin|due(?:[ -]?date)?")
+WITH_UNIT = r"(?:[\W_]*(?:[\[(].*)?|\s+(?:h|min|std)\.?)\Z"
+CAPACITY = re.compile(rf"(?:{CAPACITIES}){WITH_UNIT}", re.IGNORECASE)
+OF_EXPORT = re.compile(rf"(?:{OF_EXPORTS}){WITH_UNIT}", re.IGNORECASE)
 # The first cell of a table in which the names may be numbers.
 SAYS_JOB = re.compile(r"(?:(?:jobs?|(?:work)?orders?|wo(?:rk(?!order))?|(?:fertigungs)?auftr(?:ag|\u00e4ge)s?|fa|of"
                       r"|ordres?|commandes?|pedidos?|ordin[ei]|parts?|lots?|los|teile?|artikel|items?|pos(?:ition)?|id"
@@ -463,13 +474,17 @@ def check_titles(table: Rows, titles: Sequence[Cell]) -> None:
 
 
 def leave_out_totals(table: Rows) -> None:
-    """Report rows and columns that are named as sums, means or quantities. Columns may be if they were chosen."""
+    """Report rows and columns whose names aren't those of jobs and machines: of sums, means, quantities, capacities,
+    and what else exports have. Columns may be if they were chosen."""
+    machines = [] if table.is_chosen else table.machines
+    allow = "leave it out, or allow totals (`allow_totals`)"
     for cells, pattern, what in (
-            (table.jobs, NO_JOB, "the row {!r} looks like a sum or a mean"),
-            ([] if table.is_chosen else table.machines, NO_TIMES,
-             "the column {!r} looks like a sum, a mean or a quantity")):
+            (table.jobs, NO_JOB, f"the row {{!r}} looks like a sum or a mean: {allow}"),
+            (table.jobs, CAPACITY, f"the row {{!r}} looks like no job: {allow}"),
+            (machines, NO_TIMES, f"the column {{!r}} looks like a sum, a mean or a quantity: {allow}"),
+            (machines, OF_EXPORT, f"the column {{!r}} looks like no machine: {NO_MACHINE}")):
         for cell in [cell for cell in cells if pattern.match(cell.text)]:
-            table.report(cell, f"{what.format(cell.text)}: leave it out, or allow totals (`allow_totals`)")
+            table.report(cell, what.format(cell.text))
             cells.remove(cell)
 
 
@@ -541,7 +556,8 @@ def likely_machines(rows: Iterable[tuple[int, Sequence[str]]]) -> list[str]:
         found = []
         for column, name in enumerate(texts[at][1:], 1):
             below = [cells[column] for cells in texts[at + 1:] if column < len(cells) and cells[column]]
-            if name and not is_time(name) and not NO_TIMES.match(name) and 2 * sum(map(is_time, below)) > len(below):
+            is_other = is_time(name) or NO_TIMES.match(name) or OF_EXPORT.match(name)
+            if name and not is_other and 2 * sum(map(is_time, below)) > len(below):
                 found.append(name)
         best = max(best, found, key=len)
     return best
