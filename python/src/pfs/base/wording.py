@@ -10,6 +10,8 @@ WORDS = {
     "allow_totals": ("--allow-totals", "the tick for sums, above the table"),
     "unit": ("--unit", "Unit of the times, above the table"),
     "machines": ("--machines", "the ticks above the columns"),
+    "quantity": ("--quantity", "the column with the quantities"),
+    "setup": ("--setup", "the columns with set-ups"),
     "sheet": ("--sheet", "Sheet, above the table"),
     "decimals": ("--decimals", "Decimals, above the table"),
     "begin": ("--begin", '"Work begins"'),
