@@ -150,8 +150,8 @@ def test_what_is_said_of_later_changes_nothing_before(drawn: Drawn, days: int, w
     date, plain = max(drawn.begin.date(), drawn.begin.date() + DAY * days), calendar_of(drawn)
     rule = pfs.schedules.calendar.shifts_of(words.format(date))
     other = copy.copy(plain)
-    own, *others = plain._rule
-    other._rule = ({**own, **rule}, *others)
+    own, open_days, closed = plain._rule
+    other._rule = {**own, **rule}, open_days, closed
     try:
         other._find_spans()
     except ValueError as error:

@@ -50,11 +50,11 @@ def test_the_past_of_a_schedule_is_what_its_dates_say(folder: pathlib.Path) -> N
     assert plan(folder, "--begin", "2026-11-30T07:00", *WEEK[2:], *NOW, status=3)[1] == (
         f"pfs: monday.csv: 'chair' ends on 'saw' at 2026-11-30 10:10, but by this table and these shifts at "
         f"2026-11-30 11:10: {HINT}\n")
-    got = plan(folder, "--begin", "2026-11-28T06:00", *WEEK[2:], *NOW, status=3)[1]
-    assert "'chair' starts on 'saw' at 2026-11-30 06:00, but by this table and these shifts at 2026-11-28 06:00" in got
+    said = plan(folder, "--begin", "2026-11-28T06:00", *WEEK[2:], *NOW, status=3)[1]
+    assert "'chair' starts on 'saw' at 2026-11-30 06:00, but by this table and these shifts at 2026-11-28 06:00" in said
     (folder / "times.csv").write_text(TABLE.replace("chair;250;400", "chair;250;200"))
-    got = plan(folder, *WEEK, *NOW, status=3)[1]
-    assert "'chair' ends on 'drill' at 2026-12-01 08:50, but by this table and these shifts at 2026-11-30 13:30" in got
+    said = plan(folder, *WEEK, *NOW, status=3)[1]
+    assert "'chair' ends on 'drill' at 2026-12-01 08:50, but by this table and these shifts at 2026-11-30 13:30" in said
     (folder / "times.csv").write_text(TABLE.replace("table;300", "table;0"))
     assert "'table' starts on 'saw' at 2026-11-30 10:10, and takes no time there in this table" in plan(
         folder, *WEEK, *NOW, status=3)[1]
@@ -98,6 +98,20 @@ def test_dates_in_each_form(folder: pathlib.Path, seconds: str, sign: str) -> No
     assert plan(folder, *WEEK, *NOW) == before
     (folder / "monday.csv").write_text(re.sub(r"(:\d\d)(?=[;\n])", r"\1:01", text))
     assert "'chair' starts on 'saw' at 2026-11-30 06:00:01, but by" in plan(folder, *WEEK, *NOW, status=3)[1]
+
+
+def test_a_workbook_as_schedule(folder: pathlib.Path) -> None:
+    """Its moments are rounded to milliseconds."""
+    pytest.importorskip("openpyxl")
+    (folder / "times.csv").write_text("job [h];saw;drill\na;0,123457;2,333333\nb;1,111111;0,5\nc;5;2,000001\n")
+    now = [*WEEK, "--now", "2026-11-30T07:30", "--rest", "rest.csv", "--order"]
+    for name in ("plan.csv", "plan.xlsx"):
+        plan(folder, *WEEK, "--rounds", "0", "--schedule", name, "--language", "de")
+    before = plan(folder, *now, "plan.csv"), (folder / "rest.csv").read_bytes()
+    assert "0 finished, 3 held" in before[0][1] or "0 finished, 2 held" in before[0][1]
+    assert (plan(folder, *now, "plan.xlsx"), (folder / "rest.csv").read_bytes()) == before
+    (folder / "times.csv").write_text("job [h];saw;drill\na;0,123458;2,333333\nb;1,111111;0,5\nc;5;2,000001\n")
+    assert "but by this table" in plan(folder, *now, "plan.xlsx", status=3)[1]
 
 
 def test_an_order_without_dates_is_as_the_shifts_say(folder: pathlib.Path) -> None:

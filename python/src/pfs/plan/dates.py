@@ -17,6 +17,8 @@ from pfs.shops.instance import Instance
 
 STAMP = re.compile(r"([0-9]{4}-[0-9]{2}-[0-9]{2})[ T]([0-9]{2}:[0-9]{2})(:[0-9]{2})?(?:[.,]([0-9]{1,6}))?")
 PLAIN = re.compile(r"[0-9]+(?:[.,:][0-9]+)?")
+# A workbook has moments to the nearest millisecond.
+ROUNDED = timedelta(milliseconds=1)
 WHAT_TO_DO = ("give the table, `begin` and the shifts of that schedule, those of past days by date (`shift`), or plan "
               "the table of `rest` with its own schedule")
 
@@ -101,7 +103,7 @@ def check_past(shop: Instance, order: Sequence[int], dates: Dates, clock: Clock,
     elif said is None or said[0] == said[1]:
         text = f"has no work of {what('')}, where it starts at {exact(own[0])} {by}".replace("  ", " ")
     else:
-        at = int(clipped(said[0], clock, now) == clipped(own[0], clock, now))
+        at = int(not differ(clipped(said[0], clock, now), clipped(own[0], clock, now)))
         text = f"{what(('starts', 'ends')[at])} at {exact(said[at])}, but {by} at {exact(own[at])}"
     raise ValueError(f"{path}: {text}: {WHAT_TO_DO}")
 
@@ -116,10 +118,15 @@ def differences(shop: Instance, order: Sequence[int], dates: Dates, clock: Clock
             own = clock.span(start, end) if start < end else None
             spans = [[clipped(moment, clock, now) for moment in span or (now, now)] for span in (said, own)]
             worked = [span for span in spans if span[0] < span[1]]
-            if worked and spans[0] != spans[1]:
-                is_end = spans[0][0] == spans[1][0]
+            if worked and any(map(differ, *spans)):
+                is_end = not differ(spans[0][0], spans[1][0])
                 moment = min(span[1] for span in spans) if is_end else min(span[0] for span in worked)
                 yield Difference(moment, place, machine, said, own)
+
+
+def differ(moment: datetime, other: datetime) -> bool:
+    """Whether two moments differ, also in a workbook."""
+    return abs(moment - other) > ROUNDED
 
 
 def clipped(moment: datetime, clock: Clock, now: datetime) -> datetime:
@@ -138,7 +145,7 @@ def is_of_another(shop: Instance, dates: Dates, clock: Clock) -> str:
     for job, row in enumerate(shop.times.tolist()):
         for machine, time in enumerate(row):
             span = dates.get((shop.job_name(job), machine))
-            if span and span[1] - span[0] < timedelta(microseconds=clock.worked(time) - 1):
+            if span and span[1] - span[0] + 2 * ROUNDED < timedelta(microseconds=clock.worked(time)):
                 return (f"is of another table: {shop.job_name(job)!r} is on {shop.machine_name(machine)!r} from "
                         f"{exact(span[0])} to {exact(span[1])}, and takes longer in this one")
     return ""
