@@ -43,19 +43,19 @@ module _ (shop : FlowShop) (jobs : List ℕ) where
       let right : after ≡ tail_from row (suc machine) = rw beside at after_is in
       elim (cases_lt (suc machine) shop.machines) [
         | inl more ↦ omega (
-            arith,
-            back_more shop jobs row machine inside (omega arith),
-            under,
-            right ∙ tail_from-in row (suc machine) more,
-            time_is,
-          )
+          arith,
+          back_more shop jobs row machine inside (omega arith),
+          under,
+          right ∙ tail_from-in row (suc machine) more,
+          time_is,
+        )
         | inr none ↦ omega (
-            arith,
-            back_last shop jobs row machine inside (omega arith),
-            under,
-            right ∙ tail_from-after row (suc machine) none,
-            time_is,
-          )
+          arith,
+          back_last shop jobs row machine inside (omega arith),
+          under,
+          right ∙ tail_from-after row (suc machine) none,
+          time_is,
+        )
       ]
 
   -- after the last job all tails are 0

@@ -19,9 +19,9 @@ ghost use Rattle.pfs_c.specs.Validation.{insertion_fault};
 ghost use Rattle.pfs_c.specs.Private.Outcomes.{Validates};
 
 use crate::given::{copy_sequence, validate, validate_insertion, validate_jobs};
+use crate::iterating::IterateOptions;
 use crate::many::{fill_makespans, validate_many};
 use crate::numbers::CallFault;
-use crate::iterating::IterateOptions;
 use crate::searching::RoundsOptions;
 use pfs_base::heads::span_of;
 use pfs_base::{Bench, Instance, MOST_JOBS, MOST_PASSES, MOST_ROUNDS};
@@ -238,9 +238,7 @@ impl Kept {
         validate_insertion(self.instance.jobs(), sequence, job)?;
         validate(ties <= MOST_TIES, CallFault::Ties)?;
         let job = job as usize;
-        Ok(self
-            .iterated
-            .choose(&self.instance, ties, sequence, job))
+        Ok(self.iterated.choose(&self.instance, ties, sequence, job))
     }
 
     /// Inserts more jobs into the first `count` of `order`, and makes passes over a list of jobs until one makes the
@@ -261,15 +259,8 @@ impl Kept {
         ensures built { IsBuilt self.old ties (take count order.old) more.now list.now passes order.new result }
         ensures shop { self.new ≡ self.old }
     {
-        self.iterated.build(
-            &self.instance,
-            ties,
-            more,
-            list,
-            passes,
-            order,
-            count,
-        )
+        self.iterated
+            .build(&self.instance, ties, more, list, passes, order, count)
     }
 
     /// Writes the makespan with a job at each place of a sequence.

@@ -11,13 +11,12 @@ end_after-after-requires c =
     let jobs = c.args.sequence.now in
     let few = length-le-size shop.jobs jobs c.requires.sequence in
     let wide = c.machines-machine.ensures in
-    let all = at.auto.machine in
-    (
+    let all = at.auto.machine in (
       tail_short shop jobs wide.within (c.args.place + 1) (at.machine - 1) _ few (omega (arith, c.requires.place))
-      (omega (arith, wide.value, all, c.loop-machine-test.true))
-      (at.invariant.tails.to_do (at.machine - 1) (omega (arith, c.loop-machine-test.true))),
+          (omega (arith, wide.value, all, c.loop-machine-test.true))
+          (at.invariant.tails.to_do (at.machine - 1) (omega (arith, c.loop-machine-test.true))),
       tail_from-short shop jobs wide.within c.args.place at.machine _ few (omega (arith, c.requires.place))
-      at.invariant.after,
+          at.invariant.after,
     )
 
 pub loop-machine-preserved : goal.loop-machine-preserved
