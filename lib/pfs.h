@@ -248,6 +248,18 @@ int pfs_makespans(struct pfs_instance *instance, const uint32_t *sequences, size
  */
 int pfs_bound(struct pfs_instance *instance, uint64_t *bound) PFS_CHECKED;
 
+/** @brief Computes a lower bound of the makespans of all orders by pairs of machines. Time O(m²n log n). Allocates.
+ *
+ * The bound is the greatest of that of pfs_bound and of a sum for each pair of machines (Lageweg, Lenstra and Rinnooy
+ * Kan 1978): the least makespan on these two machines, by Johnson's rule (1954), if the machines between them could
+ * process all jobs at once, plus the least time that a job takes on the machines before the first, plus the least time
+ * that a job takes on those after the second. Since version 2.1.0.
+ *
+ * @param[out] bound the lower bound, at least that of pfs_bound
+ * @return PFS_OK, or the first of PFS_NOT_PREPARED (instance), PFS_MEMORY
+ */
+int pfs_pairs_bound(struct pfs_instance *instance, uint64_t *bound) PFS_CHECKED;
+
 /** @brief Computes when each operation of an order starts and ends, each as early as possible. Time O(nm). Allocates.
  *
  * Entry place * machines + machine belongs to the job at this place of the order, on this machine.

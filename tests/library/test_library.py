@@ -26,7 +26,7 @@ CALLS = SUPPORT / "library_calls.c"
 # The functions that allocate nothing once their instance is prepared, those that do, and those that need none.
 QUIET = ["sizes", "faulty_job", "makespan", "makespans", "bound", "neh", "rounds", "iterate", "insert", "insert_ties",
          "insertions", "heads_tails", "construct", "construct_ties", "local_search", "local_search_ties"]
-LOUD = ["table", "prove", "write"]
+LOUD = ["pairs_bound", "table", "prove", "write"]
 OTHERS = ["random", "generate", "read", "read_order", "write_order"]
 FUNCTIONS = [*QUIET, *LOUD, *OTHERS, "prepare", "release"]
 TEXTS = {"pfs_message", "pfs_version", "pfs_version_number"}
@@ -320,6 +320,7 @@ def searches(random: Random, shop: Instance) -> list[Call]:
         ("pfs_makespan", [*given(shop), *list32(some), out64()]),
         ("pfs_makespans", [*given(shop), *list32(sequences), Number(length), *list64([PATTERN] * count)]),
         ("pfs_bound", [*given(shop), out64()]),
+        ("pfs_pairs_bound", [*given(shop), out64()]),
         ("pfs_table", [*given(shop), *list32(jobs), *list64([PATTERN] * size), *list64([PATTERN] * size)]),
         ("pfs_neh", [*given(shop), out32(shop.jobs), Number(shop.jobs, is_length=True), out64(), out64()]),
         ("pfs_rounds", [*given(shop), Memory(OPTIONS.pack(random.choice(fuzz.SEEDS[:-1]), random.randint(1, shop.jobs),
