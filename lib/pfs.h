@@ -323,7 +323,7 @@ int pfs_rounds(struct pfs_instance *instance, const struct pfs_rounds_options *o
  * The search is branch and bound from both ends of the order (Ladhari and Haouari 2005; Gmys, Mezmaz, Melab and
  * Tuyttens 2020). It begins with the given order, any order of all jobs, which is replaced by the best one found. A
  * node is a set of orders that begin with some jobs and end with some; its time is O(nm). Before the first one, pairs
- * of machines raise the bound, in time O(n²m²). The search ends after `nodes` nodes. Unless all of these are used,
+ * of machines raise the bound, in time O(m²n log n). The search ends after `nodes` nodes. Unless all of these are used,
  * `left` is above 0, and the bound is the makespan: the order is optimal. A search has at most as many nodes as there
  * are sequences of distinct jobs, of any length: 9,864,101 for 10 jobs.
  *
