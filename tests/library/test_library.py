@@ -34,7 +34,7 @@ NAMES = {f"pfs_{name}" for name in FUNCTIONS} | TEXTS
 # The arguments of library_calls: the functions, and calls on a larger instance.
 NAMED = [*QUIET, *LOUD, *OTHERS, "prepare", "prepare_again", "prepare_large", "insert_large", "makespans_large",
          "search_large"]
-ALL_CALLS = Ran(b"225 calls, 0 failures\n", b"", 0)
+ALL_CALLS = Ran(b"228 calls, 0 failures\n", b"", 0)
 # No call makes as many allocations.
 MOST_GROWTHS = 200
 SHOPS = 200
@@ -373,7 +373,7 @@ def files(random: Random, shop: Instance) -> list[Call]:
 
 
 def spoilt(random: Random, arguments: Arguments) -> Arguments:
-    """The arguments with one or two numbers changed, or a number in a list that is read."""
+    """The arguments with one or two numbers changed, or one or two in a list that is read."""
     arguments = list(arguments)
     for _ in range(random.randint(1, 2)):
         place = random.randrange(len(arguments))
@@ -381,8 +381,10 @@ def spoilt(random: Random, arguments: Arguments) -> Arguments:
         if isinstance(argument, Memory):
             if len(argument.content) % 4 == 0 and len(argument.content) >= 12:
                 numbers = read32(argument.content)
-                changed = random.choice([0, 1, 9, 1_000_000_000, 1_000_000_001, 2**32 - 1])
-                numbers[random.randrange(len(numbers))] = changed
+                one, other = random.randrange(len(numbers)), random.randrange(len(numbers))
+                numbers[one], numbers[other] = numbers[other], numbers[one]
+                if random.random() < 0.7:
+                    numbers[one] = random.choice([0, 1, 9, 1_000_000_000, 1_000_000_001, 2**32 - 1])
                 arguments[place] = u32s(numbers)
         elif argument.is_length:
             arguments[place] = argument._replace(value=random.randint(0, argument.value))
@@ -430,7 +432,7 @@ def assert_same(libpfs: Library, name: str, arguments: Arguments) -> int:
 @pytest.mark.quick
 @pytest.mark.seconds(10)
 def test_two_libraries_agree_on_random_instances(libpfs: Library) -> None:
-    random = Random(7)
+    random = Random(1)
     numbers = set[int]()
     for _ in range(SHOPS):
         for name, arguments in searches(random, shop_of(random)):
