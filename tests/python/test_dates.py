@@ -323,7 +323,7 @@ def test_random_weeks(tmp_path: pathlib.Path, seed: int) -> None:
         assert begin is not None
         plan(tmp_path, *floor.options(begin), "--rounds", "3", "--schedule", "plan.csv")
         for number in range(4):
-            last, begin = begin, one_day(tmp_path, floor, begin, number)
+            begin = one_day(tmp_path, floor, begin, number)
             if begin is None:
                 break
         else:

@@ -516,10 +516,10 @@ def test_what_a_value_of_a_plan_must_be(key: str, what: str) -> None:
 PIECES = "job;qty;set-up;saw [min{}];drill\nA;10;15;2,5;0\nB;20;0;1,5;4\nC;5;30;2;0,25\n"
 
 
-def pieces(folder: pathlib.Path, *words: str, text: str = PIECES.format("")) -> tuple[int, list[list[int]], int, str]:
+def pieces(folder: pathlib.Path, *options: str, text: str = PIECES.format("")) -> tuple[int, list[list[int]], int, str]:
     """The status, the times that are planned with their decimals, and the errors."""
     (folder / "times.csv").write_text(text)
-    status, _, got = ended(["plan", "times.csv", "--unit", "min", "--rest", "rest.csv", *words], folder)
+    status, _, got = ended(["plan", "times.csv", "--unit", "min", "--rest", "rest.csv", *options], folder)
     shop = pfs.read_csv(folder / "rest.csv") if status == 0 else pfs.Instance([[0]])
     return status, shop.times.tolist(), shop.decimals, got
 
@@ -571,11 +571,11 @@ def test_quantities_that_are_none(tmp_path: pathlib.Path, quantity: str, said: s
 
 
 def test_other_faults_of_pieces(tmp_path: pathlib.Path) -> None:
-    for words, said in (
+    for options, said in (
             (["--quantity", "none"], "line 1, no column is named 'none': this row has qty, set-up, saw [min], drill "
              "(--quantity)"), (["--setup", "saw=none"], "no column is named 'none'"),
             (["--setup", "none=qty"], "no column is named 'none'"), (["--setup", "=qty"], "no column is named ''")):
-        status, _, _, got = pieces(tmp_path, *words)
+        status, _, _, got = pieces(tmp_path, *options)
         assert status == 2 and said in got, got
     most = PIECES.format("").replace("B;20;0;1,5", "B;999999999;0;999999999")
     assert "the time is above 1,000,000,000" in pieces(tmp_path, "--quantity", "qty", "--setup", "set-up", text=most)[3]
@@ -595,10 +595,10 @@ def test_jobs_that_are_not_in_the_first_column(tmp_path: pathlib.Path) -> None:
     shop = pfs.read_csv(tmp_path / "times.csv", jobs="order", machines=["drill"])
     assert (shop.job_names, shop.machine_names, shop.unit) == (("FA-1", "FA-2"), ("drill",), "min")
     assert shop.times.tolist() == [[2], [5]]
-    for words, said in ((["--jobs", "none"], "line 1, no column is named 'none' (--jobs)"),
+    for options, said in ((["--jobs", "none"], "line 1, no column is named 'none' (--jobs)"),
                         (["--jobs", "plant"], "cell A4: the job '1000' is in A3 too"),
                         (["--jobs", "order", "--machines", "lathe"], "no column is named 'lathe'")):
-        status, _, got = ended(["plan", "times.csv", *words], tmp_path)
+        status, _, got = ended(["plan", "times.csv", *options], tmp_path)
         assert status == 2 and said in got, got
     (tmp_path / "times.csv").write_text("order [h];order;qty;qty;saw\na;1;2;3;4\n")
     assert pfs.read_csv(tmp_path / "times.csv", jobs="order", machines=["saw"]).job_names == ("1",), "the whole name"
