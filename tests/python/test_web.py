@@ -16,6 +16,7 @@ import resource
 import struct
 import tempfile
 import time
+import weakref
 import zipfile
 from collections.abc import Callable, Iterator
 from typing import Any
@@ -134,7 +135,7 @@ def test_the_own_page_may_ask(client: FlaskClient) -> None:
     assert asked(client, "/", method="GET", Sec_Fetch_Site="cross-site", X_Pfs_Token="").status_code == 200
 
 
-@pytest.mark.parametrize("path", ["/", "/static/page.js", "/static/lists.js", "/static/german.js", "/static/page.css",
+@pytest.mark.parametrize("path", ["/", "/static/page.js", "/static/document.js", "/static/page.css",
                                   "/api/search/a", "/nothing"])
 def test_each_answer_forbids_what_the_page_does_not_need(client: FlaskClient, path: str) -> None:
     got = asked(client, path, method="GET")
@@ -164,7 +165,7 @@ def test_the_page_asks_for_nothing_from_elsewhere_and_makes_no_html_of_texts() -
         assert re.findall(r"(?:https?:)?//(?!/)[\w.-]+\.\w", re.sub(r"^\s*// .*$", "", text, flags=re.MULTILINE)) == []
         never = r"innerHTML|outerHTML|insertAdjacent|document\.write|\beval\b|new Function|\bon\w+=[\"']"
         assert re.findall(never, text) == []
-        assert re.findall(r"srcdoc = (.*);", text) == ["now.chart"] * (path.name == "page.js"), "the chart has a policy"
+        assert re.findall(r"srcdoc = (.*);", text) == ["told.chart"] * (path.name == "result.js"), "it has a policy"
 
 
 # What isn't a request
@@ -272,7 +273,7 @@ def test_no_value_at_any_place_is_a_fault_of_the_server(path: str, body: dict[st
 # Tables
 
 HEAD, ONE, TWO = [1, ["job", "saw", "drill"]], [2, ["a", "1", "2"]], [3, ["b", "3", "4"]]
-AS_READ: dict[str, Any] = {"faults": [], "more": 0, "suggested": [], "rounded": "", "shop": {
+AS_READ: dict[str, Any] = {"faults": [], "more": 0, "suggested": [], "rounded": "", "digest": mock.ANY, "shop": {
     "jobs": ["a", "b"], "machines": ["saw", "drill"], "unit": "", "decimals": 0, "times": [[1, 2], [3, 4]]}}
 
 
@@ -460,7 +461,7 @@ TABLE_OF_SHOP = hashlib.sha256(b"(4, 3)" + struct.pack("12I", *sum(SHOP["times"]
 # The response on the plan of docs/PLAN.md.
 TOLD: dict[str, Any] = {
     "makespan": "15.5 h", "span": 155, "bound": "15.5 h", "isOptimal": True, "above": 0.0, "gone": [], "new": [],
-    "isOther": False, "table": TABLE_OF_SHOP,
+    "isOther": False,
     "end": "2026-12-01 13:30", "bottleneck": "paint", "moved": [],
     "heads": ["machine", "work", "utilisation %", "idle before", "idle between", "idle after", "critical %"],
     "machines": [["saw", "10.0", 64.5, "0.0", "0.0", "5.5", 6.5], ["drill", "9.5", 61.3, "1.0", "2.0", "3.0", 6.5],
@@ -470,7 +471,8 @@ TOLD: dict[str, Any] = {
 
 
 @pytest.mark.parametrize(("asks", "told"), [
-    ({}, {}), ({"least": 2**53, "of": TABLE_OF_SHOP}, {}), ({"least": 2**53}, {"isOther": True}),
+    ({}, {}), ({"least": 155, "digest": TABLE_OF_SHOP}, {}), ({"least": 155}, {"isOther": True}),
+    ({"least": 156, "digest": TABLE_OF_SHOP}, {"isOther": True}),
     ({"calendar": {"begin": " 2026-11-30T06:00 ", "shifts": " \n06:00-14:00 \n\n fri:06:00-12:00", "days": " mon-fri",
                    "closed": " "}}, {}),
     ({"calendar": {"shifts": " ", "days": ""}, "title": ""},
@@ -480,7 +482,7 @@ TOLD: dict[str, Any] = {
                                     "frei danach", "kritisch %"]}),
     ({"kept": [["box", "chair", "shelf", "gone"], ["shelf", *ORDER[:3]]]}, {"moved": [[], ["shelf"]]}),
     ({"order": ["box", "stool", "chair", "shelf", "box"], "held": 1}, {"gone": ["stool"], "new": ["table"]}),
-    ({"order": ["box", "chair", "shelf"], "held": 3, "least": 160, "of": TABLE_OF_SHOP}, {
+    ({"order": ["box", "chair", "shelf"], "held": 3, "least": 160, "digest": TABLE_OF_SHOP}, {
         "makespan": "16.5 h", "span": 165, "bound": "16.0 h", "isOptimal": False, "above": 3.1, "new": ["table"],
         "end": "2026-12-02 06:30", "machines": [
             ["saw", "10.0", 60.6, "0.0", "0.0", "6.5", 60.6], ["drill", "9.5", 57.6, "1.0", "2.0", "4.0", 15.2],
@@ -500,13 +502,21 @@ def test_a_plan_is_told(asks: dict[str, Any], told: dict[str, Any], client: Flas
     {"unit": "min"}, {"decimals": 0}, {"jobs": ["table", "chair", "shelf", "bin"]},
     {"machines": ["saw", "drill", "oven"]}, {"times": [*SHOP["times"][:3], [10, 10, 59]]}])
 def test_what_was_proved_of_another_table_is_not_used(other: dict[str, Any], client: FlaskClient) -> None:
-    """A title is no part of a table."""
+    """Nor is a bound above a makespan, which contradicts it. A title is no part of a table, which has the same digest
+    when it is read."""
     shop = {**SHOP, **other}
-    body = {"shop": shop, "order": shop["jobs"][::-1], "least": 10**6, "of": TABLE_OF_SHOP}
-    got = answer(client, "/api/plan", body)
-    assert got["isOther"] and not got["isOptimal"] and got["table"] != TABLE_OF_SHOP
-    again = answer(client, "/api/plan", {**body, "of": got["table"], "title": "Week 50"})
-    assert (again["isOther"], again["isOptimal"]) == (False, True)
+    unit, digits = shop["unit"], shop["decimals"]
+    rows = [[f"job [{unit}]", *shop["machines"]]]
+    rows += [[job, *(f"{each / 10 ** digits:.{digits}f}" for each in times)]
+             for job, times in zip(shop["jobs"], shop["times"])]
+    digest = answer(client, "/api/read", {"rows": [[line, row] for line, row in enumerate(rows, 1)]})["digest"]
+    body = {"shop": shop, "order": shop["jobs"][::-1], "digest": TABLE_OF_SHOP}
+    span = answer(client, "/api/plan", body)["span"]
+    for least, asks, due in ((span, {}, (True, False)), (span + 1, {"digest": digest}, (True, False)),
+                             (2**53, {"digest": digest}, (True, False)),
+                             (span, {"digest": digest, "title": "Week 50"}, (False, True))):
+        got = answer(client, "/api/plan", {**body, "least": least, **asks})
+        assert (got["isOther"], got["isOptimal"]) == due, (least, asks)
 
 
 @pytest.mark.parametrize(("times", "told"), [([[0, 1, 0], [0, 0, 1]], ("2", "1", False, 100.0)),
@@ -617,11 +627,11 @@ def test_searches_wait_in_a_queue_and_are_limited(monkeypatch: pytest.MonkeyPatc
         assert [answer(client, f"/api/search/{name}", method="GET")["place"] for name in names] == [0, 0, 1, 2]
         for name in names[:2]:
             told = waited(client, name, lambda told: told["rounds"] > 0)
-            assert "order" not in told and told["makespan"].endswith(" h")
+            assert len({*told["order"]}) == 30 and told["makespan"].endswith(" h"), "its best order so far"
         assert [run.state for run in found.runs.values()] == ["searching"] * 2 + ["waiting"] * 2
         told = answer(client, f"/api/search/{names[3]}", method="GET")
         assert told == {"state": "waiting", "place": 2, "rounds": 0, "limit": 600, "seconds": 0.0, "makespan": "",
-                        "bound": told["bound"]} and told["bound"].endswith(" h")
+                        "isCut": False, "bound": told["bound"]} and told["bound"].endswith(" h")
         assert refused(client, "/api/search", LONG) == (
             429, "4 searches of this address run or wait: end one of them")
         monkeypatch.setattr(searches, "MOST_OF_ONE", 99)
@@ -631,9 +641,9 @@ def test_searches_wait_in_a_queue_and_are_limited(monkeypatch: pytest.MonkeyPatc
         got = asked(client, f"/api/search/{names[2]}", method="GET")
         assert (got.status_code, got.json) == (404, {"error": "this search is over"})
         last = found.runs[names[-1]]
-        for seconds in (19.5, 1):
+        for seconds in (119.5, 1):
             last.asked -= seconds
-            assert last.is_left() == (seconds == 1), "after 20 seconds"
+            assert last.is_left() == (seconds == 1), "after two minutes"
         assert answer(client, f"/api/search/{names[3]}", method="GET")["place"] == 1
         begun = time.monotonic()
         answer(client, f"/api/search/{names[0]}", method="DELETE")
@@ -645,11 +655,61 @@ def test_searches_wait_in_a_queue_and_are_limited(monkeypatch: pytest.MonkeyPatc
     assert all(run.is_set() for run in found.runs.values())
 
 
+def test_each_address_has_a_search_in_turn() -> None:
+    """An address whose search has begun waits for those whose search hasn't."""
+    found = searches.Searches(1)
+    client = client_of(found)
+
+    def add(address: str) -> str:
+        return str(found.add({**LONG, "seconds": 600}, address)["search"])
+
+    try:
+        first = add("10.0.0.1")
+        waited(client, first, lambda told: told["state"] == "searching")
+        names = [add(f"10.0.0.{last}") for last in (1, 1, 2, 2, 3)]
+        assert [found.told(name)["place"] for name in names] == [3, 5, 1, 4, 2]
+        found.end(names[2])
+        assert [found.told(name)["place"] for name in (*names[:2], *names[3:])] == [3, 4, 1, 2]
+        found.end(first)
+        waited(client, names[3], lambda told: told["state"] == "searching")
+        assert [found.told(name)["place"] for name in (*names[:2], names[4])] == [2, 3, 1]
+    finally:
+        found.end_all()
+
+
+def test_a_result_is_kept_for_some_minutes(monkeypatch: pytest.MonkeyPatch) -> None:
+    """A search that nobody asked for says that it was cut, and has its best order. The results of those who asked last
+    are kept. One that waits and is ended leaves nothing, and a result has no table."""
+    found = searches.Searches(1)
+    client = client_of(found)
+    name, other = (answer(client, "/api/search", LONG)["search"] for _ in range(2))
+    assert not waited(client, name, lambda told: told["rounds"] > 0)["isCut"]
+    plans_of = weakref.WeakSet(run.plan for run in found.runs.values())
+    answer(client, f"/api/search/{other}", method="DELETE")
+    assert [*found.runs] == [name] and len(plans_of) == 1
+    found.runs[name].asked -= 121
+    wait_until(lambda: found.runs[name].state == "done" and not plans_of, "it ends by itself", 20)
+    told = answer(client, f"/api/search/{name}", method="GET")
+    assert told["isCut"] and len(told["order"]) == 30 and told["seconds"] < 20
+    assert answer(client, "/api/plan", {**LONG, "order": told["order"]})["makespan"] == told["makespan"]
+    monkeypatch.setattr(searches, "MOST_KEPT", 2)
+    small = [answer(client, "/api/search", {"shop": SHOP, "seconds": 0})["search"] for _ in range(2)]
+    assert not waited(client, small[0])["isCut"] and not waited(client, small[1])["isCut"]
+    answer(client, "/api/search/none", method="DELETE")
+    assert [*found.runs] == small
+    for seconds in (599.5, 1):
+        found.runs[small[0]].asked -= seconds
+        assert found.runs[small[0]].is_left() == (seconds == 1), "after ten minutes"
+    answer(client, "/api/search/none", method="DELETE")
+    assert [*found.runs] == small[1:]
+
+
 def test_a_search_ends_when_nobody_asks(monkeypatch: pytest.MonkeyPatch) -> None:
     """Also one that waits. Its result is forgotten."""
     found = searches.Searches(1)
     client = client_of(found)
     names = [answer(client, "/api/search", LONG)["search"] for _ in range(2)]
     monkeypatch.setattr(searches, "FORGET", 0.3)
+    monkeypatch.setattr(searches, "KEPT", 0.3)
     wait_until(lambda: not (answer(client, "/api/search/none", method="DELETE") or found.runs), "all are forgotten", 5)
     assert {asked(client, f"/api/search/{name}", method="GET").status_code for name in names} == {404}

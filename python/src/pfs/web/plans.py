@@ -87,7 +87,7 @@ def shop_of(rows: list[tuple[int, list[str]]], options: dict[str, Any]) -> dict[
                  for each in (fault, *fault.others)]
         return {"faults": found[:MOST_FAULTS], "more": len(found[MOST_FAULTS:]),
                 "suggested": tables.likely_machines(rows)}
-    return {"faults": [], "more": 0, "suggested": [], "rounded": rounded,
+    return {"faults": [], "more": 0, "suggested": [], "rounded": rounded, "digest": Plan(shop).table,
             "shop": {"jobs": shop.job_names, "machines": shop.machine_names, "unit": shop.unit,
                      "decimals": shop.decimals, "times": shop.times.tolist()}}
 
@@ -131,11 +131,12 @@ def placed(plan: Plan, names: list[str], held: int) -> dict[str, list[str]]:
 
 
 def plan_from(given: dict[str, Any]) -> tuple[Plan, dict[str, Any]]:
-    """The plan of a request, and what is said of it: the names of jobs that are gone or new, and whether what the page
-    remembers is of another table."""
-    plan = Plan(shop := shop_from(given))
+    """The plan of a request, and what is said of it: the names of jobs that are gone or new, and whether the bound that
+    the page remembers is of another table. One above a makespan is, whatever it says of itself."""
+    plan, least = Plan(shop := shop_from(given)), field(given, "least", int, 0, 2**53)
     said: dict[str, Any] = placed(plan, texts(given.get("order")), field(given, "held", int, 0, shop.jobs))
-    said["isOther"] = not plan.know(field(given, "least", int, 0, 2**53), field(given, "of", str, ""))
+    is_known = least <= plan.schedule.makespan and plan.know(least, field(given, "digest", str, ""))
+    said["isOther"] = not is_known
     # A line has a shift; a comma is between days and dates.
     begin, shifts, days, closed = (field(field(given, "calendar", dict, {}), name, str, "").strip()
                                    for name in ("begin", "shifts", "days", "closed"))
@@ -150,7 +151,7 @@ def told(given: dict[str, Any], folder: str) -> dict[str, Any]:
     (plan, said), chart = plan_from(given), pathlib.Path(folder, "chart.html")
     jobs, (heads, *machines), (_, *end) = plan.jobs(), plan.machines(), plan.ends()
     plan.chart(str(chart), plan.shop.name or True)
-    return {**quality(plan), **said, "table": plan.table,
+    return {**quality(plan), **said,
             "end": end[0].removeprefix("end ") if end else "", "bottleneck": plan.report.bottleneck,
             "machines": machines, "heads": [*map(words_of(plan.language), heads)],
             "moved": [moved([name for name, *_ in jobs], texts(each)) for each in field(given, "kept", list, [])],

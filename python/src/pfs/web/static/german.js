@@ -9,9 +9,10 @@ const GERMAN = {
   "Due dates, set-up times, batches, parallel machines and jobs that arrive later are not planned.":
     "Liefertermine, Rüstzeiten, Lose, parallele Maschinen und spätere Ankünfte werden nicht geplant.",
   "1 Table": "1 Tabelle", "2 Plan": "2 Planen", "3 Result": "3 Ergebnis",
-  "Drop a table here, choose a file (.xlsx, .csv), or paste cells (Ctrl+V). A row is a job, a column is a machine.":
+  "Drop a table here, choose a file (.xlsx, .csv), or paste cells (Ctrl+V). A row is a job, a column is a machine. What \
+was saved here (.json) opens too.":
     "Tabelle hierher ziehen, Datei wählen (.xlsx, .csv) oder Zellen einfügen (Strg+V). Eine Zeile ist ein Auftrag, "
-    + "eine Spalte eine Maschine.",
+    + "eine Spalte eine Maschine. Hier Gespeichertes (.json) öffnet sich auch.",
   "Sheet": "Blatt", "Unit of the times": "Einheit der Zeiten", "as in the table": "wie in der Tabelle",
   "Decimal sign": "Dezimalzeichen", "comma": "Komma", "point": "Punkt", "Decimals": "Nachkommastellen", "all": "alle",
   "Sums are jobs and machines too": "Summen sind auch Aufträge und Maschinen",
@@ -27,9 +28,18 @@ const GERMAN = {
   "Finished jobs are left out, and begun ones held. A machine that is down has its time in the table above.":
     "Fertiges fällt weg, Begonnenes bleibt. Bis wann eine Maschine steht, wird in der Tabelle darüber eingetragen.",
   "Plan the rest": "Den Rest planen", "Plans": "Pläne",
-  "The server stores nothing. The table and the plans are in this tab until you close it: download what you need.":
-    "Der Server speichert nichts. Tabelle und Pläne sind in diesem Tab, bis er geschlossen wird: bitte herunterladen.",
+  "The server stores nothing. The table and the plans are in this tab until you close it: save what you need.":
+    "Der Server speichert nichts. Tabelle und Pläne sind in diesem Tab, bis er geschlossen wird: bitte speichern.",
   "The server doesn't answer.": "Der Server antwortet nicht.",
+  "The server is being restarted.": "Der Server wird neu gestartet.", "It is asked again.": "Er wird wieder gefragt.",
+  "The table on this page isn't read yet.": "Die Tabelle auf dieser Seite ist noch nicht gelesen.",
+  "The search was ended after {seconds} of {limit} s, as nobody asked for it.":
+    "Die Suche endete nach {seconds} von {limit} s, da niemand mehr nach ihr fragte.",
+  "Save all of this": "Alles speichern", "Back": "Zurück", "of another table": "von einer anderen Tabelle",
+  "This isn't a document that this page has saved.": "Das ist keine Datei, die diese Seite gespeichert hat.",
+  "cell changed": "Zelle geändert", "row changed": "Zeile geändert", "machines chosen": "Maschinen gewählt",
+  "options chosen": "Optionen gewählt", "file opened": "Datei geöffnet", "rest planned": "Rest geplant",
+  "plan shown": "Plan gezeigt", "plan searched": "Plan gesucht",
   "The table is too large: 6 MB are the most.": "Die Tabelle ist zu groß: höchstens 6 MB.",
   "It is too large to survive a reload of the page.": "Sie ist zu groß, um ein Neuladen der Seite zu überstehen.",
   "It isn't in UTF-8 and was read as Windows text: look at its letters.":
@@ -42,7 +52,6 @@ const GERMAN = {
   "waits for a processor, place {place}": "wartet auf einen Prozessor, Platz {place}",
   "{makespan} so far, no order is below {bound}; {left} s left":
     "bisher {makespan}, unter {bound} geht es nicht; noch {left} s",
-  "of another table": "einer anderen Tabelle",
   "what was proved is of another table": "was bewiesen ist, gilt für eine andere Tabelle",
   "finished": "fertig", "optimal: no order is shorter": "optimal: keine Reihenfolge ist kürzer",
   "at most {above} % above the shortest: no order is below {bound}":
@@ -69,13 +78,13 @@ const FAULTS = [
   [/^(the server (is busy|has too)|too many searches).*/, "der Server ist ausgelastet: bitte bald noch einmal"],
   [/^The token is missing or wrong.*/, "In der Adresse fehlt das Kennwort: die Adresse öffnen, die der Server nennt."],
 ];
-const language = localStorage.getItem("language") || (navigator.language.startsWith("de") ? "de" : "en");
+export const language = localStorage.getItem("language") || (navigator.language.startsWith("de") ? "de" : "en");
 // A text of the page in its language, with values in place of {names}.
-function tr(text, values = {}) {
+export function tr(text, values = {}) {
   return (language === "de" && GERMAN[text] || text).replace(/\{(\w+)\}/g, (_, name) => values[name] ?? `{${name}}`);
 }
 // What the server says.
-function fault(text) {
+export function fault(text) {
   const found = language === "de" && FAULTS.find(([pattern]) => pattern.test(text));
   return found ? text.trim().replace(...found) : text;
 }
