@@ -1,5 +1,6 @@
 """The page for planners in a browser: a week of a planner, by a pointer and by the keyboard alone."""
 import base64
+import contextlib
 import difflib
 import json
 import pathlib
@@ -95,9 +96,9 @@ class Page:
         return [each["message"] for each in self.browser.get_log("browser")]
 
 
-@pytest.fixture(scope="module")
-def page(tmp_path_factory: pytest.TempPathFactory) -> Iterator[Page]:
-    folder = tmp_path_factory.mktemp("browser")
+@contextlib.contextmanager
+def browser_in(folder: pathlib.Path) -> Iterator[webdriver.Chrome]:
+    """A browser, which downloads to this folder."""
     options = webdriver.ChromeOptions()
     options.binary_location = tool("chromium")
     for flag in ("--headless=new", "--no-sandbox", "--disable-gpu", "--disable-dev-shm-usage", "--lang=en",
@@ -106,12 +107,18 @@ def page(tmp_path_factory: pytest.TempPathFactory) -> Iterator[Page]:
     options.add_experimental_option("prefs", {"download.default_directory": str(folder),
                                               "profile.default_content_setting_values.automatic_downloads": 1})
     options.set_capability("goog:loggingPrefs", {"browser": "ALL"})
-    with served("--searches", "2") as server:
-        browser = webdriver.Chrome(service=Service(tool("chromedriver")), options=options)
-        try:
-            yield Page(browser, server, folder)
-        finally:
-            browser.quit()
+    browser = webdriver.Chrome(service=Service(tool("chromedriver")), options=options)
+    try:
+        yield browser
+    finally:
+        browser.quit()
+
+
+@pytest.fixture(scope="module")
+def page(tmp_path_factory: pytest.TempPathFactory) -> Iterator[Page]:
+    folder = tmp_path_factory.mktemp("browser")
+    with served("--searches", "2") as server, browser_in(folder) as browser:
+        yield Page(browser, server, folder)
 
 
 # Notes what the page asks, and says what is seen of it. What a search returns is up to the test.
