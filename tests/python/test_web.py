@@ -2,6 +2,7 @@
 tests/python/test_web_server.py starts it, and test_web_page.py looks at the page."""
 import base64
 import copy
+import datetime
 import functools
 import hashlib
 import io
@@ -14,10 +15,12 @@ import random
 import re
 import resource
 import struct
+import sys
 import tempfile
 import time
 import weakref
 import zipfile
+from collections import Counter
 from collections.abc import Callable, Iterator
 from typing import Any
 from unittest import mock
@@ -27,11 +30,12 @@ import pytest
 from hypothesis import given
 from hypothesis import strategies as st
 from support.needs import require_module
-from support.tools import wait_until
+from support.tools import run_main, wait_until
 
 for module in ("flask", "waitress", "openpyxl"):
     require_module(module)
 from flask.testing import FlaskClient
+from pfs.commands.main import main, plan_words
 from pfs.files import tables as _tables
 from pfs.web import app, apart, plans, searches
 from werkzeug.test import TestResponse
@@ -296,7 +300,7 @@ def test_a_file_is_read_with_its_rows(code: str, client: FlaskClient) -> None:
     table = TABLE.replace("box", "K\u00fcche")
     assert read(client, table.encode(code)) == {
         **AS_READ, "shop": {**SHOP, "jobs": [*SHOP["jobs"][:3], "K\u00fcche"]}, "delimiter": ";", "texts": None,
-        "sheets": [], "sheet": None, "isOther": code == "cp1252",
+        "sheets": [], "sheet": None, "isOther": code == "cp1252", "own": {}, "hidden": [0, 0],
         "rows": [[line, row.split(";")] for line, row in enumerate(table.splitlines(), 1)]}
 
 
@@ -317,6 +321,65 @@ def workbook(sheets: dict[str, list[list[Any]]]) -> bytes:
             book[name].append(row) if name in book.sheetnames else book.create_sheet(name).append(row)
     book.save(out)
     return out.getvalue()
+
+
+OPTIONS = {"unit": ["h", "min"], "machines": ["saw,drill", "paint, saw", '"drill"', "oven"], "decimal": ["comma"],
+           "decimals": [0, 1], "allow-totals": [None], "begin": ["2026-11-30 06:00", datetime.datetime(2026, 12, 1)],
+           "shift": ["06:00-14:00", "06:00-08:00,09:00-10:00", "fri:06:00-12:00", "6-14"], "days": ["mon-fri", "tue"],
+           "closed": ["2026-12-01", "2026-12-02..2026-12-03"], "sheet": ["KW 49", "KW 50"], "schedule": ["x.csv"],
+           "seconds": [2], "nothing": [1]}
+
+
+@pytest.mark.seconds(60)
+def test_a_workbook_is_planned_as_by_the_terminal(client: FlaskClient, tmp_path: pathlib.Path) -> None:
+    """The sheet `pfs` counts: the same plan, or the same faults."""
+    choose, done = random.Random(3), Counter[str]()
+    for number in range(200):
+        names = sorted(choose.sample([*OPTIONS], choose.randint(0, 4)))
+        rows = [[name, choose.choice(OPTIONS[name])] for name in names]
+        cells = [1, 2.5, 3, 12] + ["1,5"] * choose.randint(0, 1) + ["-"] * (number % 9 == 0)
+        table = [["job [h]" if number % 3 else "job", "saw", "drill", "paint", *["total"] * (number % 5 == 0)]]
+        table += [[job, *(choose.choice(cells) for _ in table[0][1:])] for job in ("table", "box", "shelf")]
+        sheets = {"KW 48": [["job [min]", "saw", "drill"], ["a", 4, 2], ["b", 1, 3]], "KW 49": table}
+        book = workbook({"PFS" if number % 2 else "pfs": [["# options"], *rows],
+                         **dict(choose.sample([*sheets.items()], choose.randint(1, 2)))})
+        (tmp_path / "table.xlsx").write_bytes(book)
+        due = run_main(lambda: main(sys.argv[1:], plan_words()), ["pfs-plan", "table.xlsx", "--rounds", "1"], tmp_path)
+        got = asked(client, "/api/read", {"content": content(book), "name": "table.xlsx", "options": {}})
+        said = f"{rows} {table} {due} {got.text}"
+        if got.status_code != 200 or got.json["faults"]:
+            done["refused"] += 1
+            cells = [f"{'ABCDE'[each['column'] - 1]}{each['line']}" for each in got.json.get("faults", [])]
+            assert due.status and re.findall(r" cell (\w+)", due.stderr) == cells, said
+            assert got.json.get("error", "").partition(":")[0] in due.stderr, said
+            continue
+        makespan, *_ = lines = due.stdout.splitlines() or [""]
+        calendar, shop = (got.json["own"] or {"calendar": {}})["calendar"], got.json["shop"]
+        order = [line.partition(" ")[2] for line in lines if re.match(r"\d+ ", line)]
+        told = asked(client, "/api/plan", {"shop": shop, "calendar": calendar, "order": order or shop["jobs"]})
+        if told.status_code != 200:
+            done["without dates"] += 1
+            assert due.status, said
+            continue
+        end = "".join(line for line in lines if line.startswith("end "))
+        assert due.status == 0 and f"makespan {told.json['makespan']}" == makespan, said
+        assert sorted(order) == sorted(shop["jobs"]) and f"end {told.json['end']}" == (end or "end "), said
+        done["dates" if end else "plan"] += 1
+        assert got.json["own"].get("unused", []) == [name for name in names if name == "seconds"], said
+        assert not {"pfs", "PFS"} & {*got.json["sheets"]}
+    assert min(done[each] for each in ("refused", "without dates", "plan", "dates")) > 10, done
+
+
+def test_hidden_rows_and_columns_are_counted(client: FlaskClient) -> None:
+    import openpyxl
+    book, out = openpyxl.Workbook(), io.BytesIO()
+    for row in (["job", "saw", "drill"], ["a", 1, 2], ["b", 3, 4], ["c", 5, 6]):
+        book.active.append(row)
+    book.active.row_dimensions[2].hidden = book.active.row_dimensions[3].hidden = True
+    book.active.column_dimensions["C"].hidden = True
+    book.save(out)
+    got = read(client, out.getvalue())
+    assert (got["hidden"], got["shop"]["times"]) == ([2, 1], [[1, 2], [3, 4], [5, 6]])
 
 
 def test_a_sheet_is_chosen_and_decimals_are_rounded(client: FlaskClient) -> None:
@@ -512,11 +575,11 @@ def test_what_was_proved_of_another_table_is_not_used(other: dict[str, Any], cli
     digest = answer(client, "/api/read", {"rows": [[line, row] for line, row in enumerate(rows, 1)]})["digest"]
     body = {"shop": shop, "order": shop["jobs"][::-1], "digest": TABLE_OF_SHOP}
     span = answer(client, "/api/plan", body)["span"]
-    for least, asks, due in ((span, {}, (True, False)), (span + 1, {"digest": digest}, (True, False)),
-                             (2**53, {"digest": digest}, (True, False)),
-                             (span, {"digest": digest, "title": "Week 50"}, (False, True))):
-        got = answer(client, "/api/plan", {**body, "least": least, **asks})
-        assert (got["isOther"], got["isOptimal"]) == due, (least, asks)
+    own = {**body, "digest": digest, "title": "Week 50"}
+    for asks, due in (({**body, "least": span}, (True, False)), ({**own, "least": span + 1}, (True, False)),
+                      ({**own, "least": 2**53}, (True, False)), ({**own, "least": span}, (False, True))):
+        got = answer(client, "/api/plan", asks)
+        assert (got["isOther"], got["isOptimal"]) == due, asks
 
 
 @pytest.mark.parametrize(("times", "told"), [([[0, 1, 0], [0, 0, 1]], ("2", "1", False, 100.0)),
@@ -525,6 +588,22 @@ def test_how_far_above_the_bound_a_plan_is(times: Any, told: Any, client: FlaskC
     shop = {"jobs": ["a", "b"], "machines": ["saw", "drill", "paint"], "times": times}
     got = answer(client, "/api/plan", {"shop": shop, "order": ["a", "b"]})
     assert (got["makespan"], got["bound"], got["isOptimal"], got["above"]) == told
+
+
+@pytest.mark.parametrize("kind", ["txt", "csv", "xlsx"])
+def test_an_order_is_read_of_what_was_downloaded(kind: str, client: FlaskClient) -> None:
+    """For another table too: names that it lacks are left out."""
+    path = asked(client, "/api/file", {**PLAN, "kind": kind}).data
+    shop = {**SHOP, "jobs": ["table", "stool", "shelf", "box"]}
+    assert answer(client, "/api/order", {"shop": SHOP, "content": content(path)}) == {"order": ORDER}
+    assert answer(client, "/api/order", {"shop": shop, "content": content(path)}) == {"order": ["box", "table", "shelf"]}
+
+
+def test_what_is_no_order_is_refused(client: FlaskClient) -> None:
+    """By its cause, without the name of a file of the server."""
+    for text, due in (("stool\n", "no job of the table is named: write the names of the jobs, one in a line"),
+                      ("box\ntable\nbox\n", "the job 'box' is in line 1 too")):
+        assert refused(client, "/api/order", {"shop": SHOP, "content": content(text)}) == (422, due)
 
 
 BEGINS = {"xlsx": b"PK", "zip": b"PK", "pdf": b"%PDF", "csv": b"\xef\xbb\xbfjob;machine", "html": b"<!DOCTYPE html>",
@@ -684,7 +763,7 @@ def test_a_result_is_kept_for_some_minutes(monkeypatch: pytest.MonkeyPatch) -> N
     client = client_of(found)
     name, other = (answer(client, "/api/search", LONG)["search"] for _ in range(2))
     assert not waited(client, name, lambda told: told["rounds"] > 0)["isCut"]
-    plans_of = weakref.WeakSet(run.plan for run in found.runs.values())
+    plans_of: weakref.WeakSet[Any] = weakref.WeakSet(run.plan for run in found.runs.values())
     answer(client, f"/api/search/{other}", method="DELETE")
     assert [*found.runs] == [name] and len(plans_of) == 1
     found.runs[name].asked -= 121

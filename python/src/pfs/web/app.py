@@ -23,7 +23,7 @@ from pfs.web.searches import Searches
 MOST_BODY = 8 * 2**20
 HEADERS = {"X-Content-Type-Options": "nosniff", "Cache-Control": "no-store", "Referrer-Policy": "no-referrer",
            "Cross-Origin-Opener-Policy": "same-origin", "Cross-Origin-Resource-Policy": "same-origin"}
-CALLS = {"read": plans.read, "plan": plans.told, "rest": plans.rest, "file": plans.file}
+CALLS = {"read": plans.read, "order": plans.order, "plan": plans.told, "rest": plans.rest, "file": plans.file}
 
 
 def policy() -> str:

@@ -3,6 +3,9 @@ are called apart (`pfs.web.apart`)."""
 from __future__ import annotations
 
 import base64
+import contextlib
+import csv
+import io
 import pathlib
 import zipfile
 from typing import Any
@@ -11,11 +14,13 @@ from pfs.base.faults import TableFault
 from pfs.base.languages import words_of
 from pfs.base.names import shown
 from pfs.base.wording import as_controls
-from pfs.base.workbooks import MOST_ROWS, Workbook
+from pfs.base.workbooks import MOST_ROWS, OPTIONS_SHEET, Workbook
+from pfs.commands.cli import Misused
+from pfs.commands.main import DECIMAL_SIGNS, parsed, plan_words
 from pfs.files import tables
-from pfs.plan.orders import moved, numbers_by_name
+from pfs.plan.orders import moved, numbers_by_name, order_in
 from pfs.plan.plan import Plan, calendar_of
-from pfs.schedules.calendar import needed, text_of
+from pfs.schedules.calendar import begin_of, needed, text_of
 from pfs.shops.instance import Instance
 from pfs.web.apart import Wrong
 
@@ -44,6 +49,11 @@ def texts(given: Any) -> list[str]:
     return given
 
 
+def content_from(given: dict[str, Any]) -> bytes:
+    """The content of a file."""
+    return base64.b64decode(field(given, "content", str, "", 2**23), validate=True)
+
+
 # Tables
 
 def read(given: dict[str, Any], folder: str) -> dict[str, Any]:
@@ -51,14 +61,18 @@ def read(given: dict[str, Any], folder: str) -> dict[str, Any]:
     options = field(given, "options", dict, {})
     if "content" not in given:
         return shop_of(rows_from(given.get("rows")), options)
-    content = base64.b64decode(field(given, "content", str, "", 2**23), validate=True)
+    content, own, hidden = content_from(given), dict[str, Any](), [0, 0]
     name, sheet = field(given, "name", str, ""), field(options, "sheet", str)
     faults, sheets, marked = list[TableFault](), list[str](), None
     if content.startswith(tables.ARCHIVE):
-        book = Workbook(content, name)
-        sheets, sheet = book.names, sheet if sheet in book.names else book.first
-        table = book.csv_of(sheet, tables.MOST_ROWS + 2)
-        marked = [[*place] for place in sorted(book.texts)]
+        # A sheet is named when another one is chosen.
+        own = {} if sheet else set_in(content, pathlib.Path(folder, "table.xlsx"))
+        options, book = {**options, **own.get("typed", {})}, Workbook(content, name)
+        sheets, sheet = [each for each in book.names if each.casefold() != OPTIONS_SHEET], options.get("sheet")
+        if own and sheet and sheet not in book.names:
+            raise Wrong(f"the sheet {OPTIONS_SHEET!r} names the sheet {sheet!r}, which the workbook lacks")
+        table = book.csv_of(sheet := sheet if sheet in book.names else book.first, tables.MOST_ROWS + 2)
+        marked, hidden = [[*place] for place in sorted(book.texts)], book.hidden
     else:
         table = tables.text_of(content, name, faults)
     delimiter = tables.delimiter_of(table)
@@ -66,7 +80,29 @@ def read(given: dict[str, Any], folder: str) -> dict[str, Any]:
     if len(rows) > tables.MOST_ROWS:
         raise Wrong(f"the table has more than {tables.MOST_ROWS:,} rows")
     return {"rows": rows, "delimiter": delimiter, "texts": marked, "sheets": sheets, "sheet": sheet,
-            "isOther": bool(faults), **shop_of(rows, {**options, "delimiter": delimiter, "texts": marked})}
+            "isOther": bool(faults), "own": own, "hidden": hidden, **shop_of(rows, {**options, "delimiter": delimiter, "texts": marked})}
+
+
+def set_in(content: bytes, path: pathlib.Path) -> dict[str, Any]:
+    """What the sheet `pfs` of a workbook sets, as `pfs-plan` reads it: options of the table, dates, and the names of the
+    options for which the page has no field."""
+    path.write_bytes(content)
+    try:
+        with contextlib.redirect_stderr(io.StringIO()):
+            found, usual = (vars(parsed([str(each)], plan_words())) for each in (path, path.with_name("none")))
+    except Misused as fault:
+        raise Wrong(str(fault).removeprefix(f"{path}, ")) from None
+    given = {name: value for name, value in found.items() if value != usual[name] and name != "table"}
+    if not given:
+        return {}
+    own: dict[str, Any] = {name: given.pop(name) for name in ("unit", "sheet", "decimals") if name in given}
+    own["decimal"], own["totals"] = DECIMAL_SIGNS.get(given.pop("decimal", ""), ""), given.pop("allow_totals", False)
+    own["machines"] = next(csv.reader([given.pop("machines", "")], skipinitialspace=True), [])
+    dates = {"shifts": "\n".join(given.pop("shift", ())), "days": ",".join(given.pop("days", ())),
+             "closed": ",".join(given.pop("closed", ()))}
+    if begin := given.pop("begin", ""):
+        dates["begin"] = text_of(begin_of(begin), 0).replace(" ", "T")
+    return {"typed": own, "calendar": dates, "unused": sorted(given)}
 
 
 def shop_of(rows: list[tuple[int, list[str]]], options: dict[str, Any]) -> dict[str, Any]:
@@ -115,6 +151,16 @@ def shop_from(given: dict[str, Any]) -> Instance:
         raise Wrong(f"the table has more than {MOST_TIMES:,} times")
     return Instance(times, name=field(given, "title", str, ""), job_names=jobs, machine_names=machines,
                     unit=field(fields, "unit", str, ""), decimals=field(fields, "decimals", int, 0, 9))
+
+
+def order(given: dict[str, Any], folder: str) -> dict[str, list[str]]:
+    """The jobs of a table in the order of a file, as `pfs-plan --order` reads it."""
+    shop, path = shop_from(given), pathlib.Path(folder, "order")
+    path.write_bytes(content_from(given))
+    try:
+        return {"order": [*map(shop.job_name, order_in(path, shop).jobs)]}
+    except TableFault as fault:
+        raise Wrong(fault.text) from None
 
 
 # Plans

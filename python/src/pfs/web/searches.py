@@ -93,8 +93,9 @@ class Searches:
                     self.lock.wait()
                 run = waiting[0]
                 run.state, run.begun = "searching", time.monotonic()
+            # It would keep those that are ended meanwhile.
+            del waiting
             run.search()
-            del run, waiting
 
     def drop(self) -> None:
         """Drop the searches that wait and are ended or left, and the results that are left or too many."""

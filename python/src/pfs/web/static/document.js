@@ -95,10 +95,11 @@ export const sheetOf = (state, sheet) => ({...state, opening: {content: state.re
   options: {...state.doc.typed, machines: [], sheet}}});
 function opened(state, opening, found) {
   if (state.opening !== opening) return state;
-  const {rows, delimiter, texts, sheet, sheets} = found, {doc} = state;
-  const typed = {...opening.options, rows, delimiter, texts, sheet};
+  const {rows, delimiter, texts, sheet, sheets, own = {}} = found, {doc} = state;
+  const typed = {...opening.options, ...own.typed, decimals: String(own.typed?.decimals ?? opening.options.decimals),
+                 rows, delimiter, texts, sheet};
   const next = stepped(state, "file", {...BLANK, typed, proved: doc.proved, kept: doc.kept,
-    calendar: doc.calendar.begin ? {...doc.calendar, begin: ""} : doc.calendar});
+    calendar: own.calendar ? {...DATES, ...own.calendar} : {...doc.calendar, begin: ""}});
   return {...next, opening: null, read: {...found, typed, sheets, content: opening.content}};
 }
 // A saved document takes the place of this one. It is read anew.
@@ -118,16 +119,22 @@ export const ofPlan = state => aboutPlan(state);
 function wasRead(state, typed, found) {
   const {doc, read} = state;
   if (typed !== doc.typed) return state;
-  const {plan} = doc, {shop, digest} = found, {content, sheets = []} = read?.typed.rows === typed.rows ? read : {};
+  const {plan} = doc, {shop, digest} = found;
+  const {content, sheets = [], own, hidden} = read?.typed.rows === typed.rows ? read : {};
   const isOther = plan && shop && plan.digest !== digest;
-  return {...state, read: {...found, typed, content, sheets},
+  return {...state, read: {...found, typed, content, sheets, own, hidden},
           doc: isOther ? {...doc, plan: carried(plan, digest, new Set(shop.jobs))} : doc};
 }
 // A planner's order for another table. What was proved isn't carried.
-function carried({order, held, done}, digest, jobs) {
+function carried({order, held = 0, done}, digest, jobs) {
   const [here, gone] = [true, false].map(is => order.filter(each => jobs.has(each) === is));
   const stay = order.slice(0, held).filter(each => jobs.has(each)).length;
   return here.length ? {digest, order: here, held: stay, gone, done} : null;
+}
+// The order of a file, for this table.
+export function orderTaken(state, plan) {
+  const found = shopOf(state) && carried(plan, state.read.digest, new Set(shopOf(state).jobs));
+  return found ? stepped(state, "order", {plan: found}) : state;
 }
 function wasTold(state, of, found) {
   if (!planOf(state) || !isSame(of, aboutPlan(state))) return state;

@@ -39,11 +39,16 @@ was saved here (.json) opens too.":
   "This isn't a document that this page has saved.": "Das ist keine Datei, die diese Seite gespeichert hat.",
   "cell changed": "Zelle geändert", "row changed": "Zeile geändert", "machines chosen": "Maschinen gewählt",
   "options chosen": "Optionen gewählt", "file opened": "Datei geöffnet", "rest planned": "Rest geplant",
-  "plan shown": "Plan gezeigt", "plan searched": "Plan gesucht",
+  "plan shown": "Plan gezeigt", "plan searched": "Plan gesucht", "order taken": "Reihenfolge gelesen",
+  "Order from a file": "Reihenfolge aus Datei",
+  "No job of the table is in this order.": "Kein Auftrag der Tabelle ist in dieser Reihenfolge.",
   "The table is too large: 6 MB are the most.": "Die Tabelle ist zu groß: höchstens 6 MB.",
   "It is too large to survive a reload of the page.": "Sie ist zu groß, um ein Neuladen der Seite zu überstehen.",
   "It isn't in UTF-8 and was read as Windows text: look at its letters.":
     "Sie ist nicht in UTF-8 und wurde als Windows-Text gelesen: bitte Umlaute prüfen.",
+  "hidden rows: {rows}, hidden columns: {columns}, which are read too":
+    "ausgeblendete Zeilen: {rows}, ausgeblendete Spalten: {columns}, auch sie werden gelesen",
+  "the options of its sheet pfs are used": "die Optionen im Blatt pfs gelten", "but for these:": "außer diesen:",
   "The machines are:": "Die Maschinen sind:", "Row": "Zeile", "and {more} more": "und {more} weitere",
   "{jobs} jobs, {machines} machines ({names}), times in {unit}, decimals: {decimals}":
     "{jobs} Aufträge, {machines} Maschinen ({names}), Zeiten in {unit}, Nachkommastellen: {decimals}",

@@ -10,7 +10,7 @@ import {drawTable} from "./table.js";
 const {change, doing, say} = desk;
 const STEPS = {edit: tr("cell changed"), row: tr("row changed"), machines: tr("machines chosen"),
                options: tr("options chosen"), file: tr("file opened"), rest: tr("rest planned"),
-               show: tr("plan shown"), search: tr("plan searched")};
+               show: tr("plan shown"), search: tr("plan searched"), order: tr("order taken")};
 
 function draw() {
   const {doc, before, search: running} = desk.state, trouble = desk.trouble();
@@ -38,18 +38,36 @@ function drawSearch(running) {
 }
 
 // Files: a table, or a document of this page
-const take = doing(async file => {
+const isDocument = file => /\.json$/i.test(file.name);
+async function contentOf(file) {
   if (file.size > desk.MOST) throw new Error(desk.TOO_LARGE);
-  document.activeElement.blur();
-  const reader = new FileReader(), isDocument = /\.json$/i.test(file.name);
+  const reader = new FileReader();
   await new Promise(done => { reader.onloadend = done; reader.readAsDataURL(file); });
   if (reader.error) throw reader.error;
-  const content = reader.result.split("base64,")[1] || "";
-  if (!isDocument) { change(now => steps.openingOf(now, content, file.name)); return; }
+  return reader.result.split("base64,")[1] || "";
+}
+function documentIn(content) {
   const bytes = Uint8Array.from(atob(content), letter => letter.charCodeAt(0));
   const doc = steps.fromFile(new TextDecoder().decode(bytes));
   if (!doc) throw new Error(tr("This isn't a document that this page has saved."));
+  return doc;
+}
+const take = doing(async file => {
+  document.activeElement.blur();
+  const content = await contentOf(file);
+  if (!isDocument(file)) { change(now => steps.openingOf(now, content, file.name)); return; }
+  const doc = documentIn(content);
   change(now => steps.documentOpened(now, doc));
+});
+byId("from").onchange = doing(async ({target}) => {
+  const [file] = target.files, content = await contentOf(file);
+  target.value = "";
+  await desk.settled();
+  const {typed} = desk.state.doc, shop = steps.shopOf(desk.state);
+  const plan = isDocument(file) ? documentIn(content).plan : await desk.ask("order", {shop, content});
+  const taken = typed === desk.state.doc.typed && plan && steps.orderTaken(desk.state, plan);
+  if (!taken || taken === desk.state) throw new Error(tr("No job of the table is in this order."));
+  change(() => taken);
 });
 byId("save").onclick = () => download(new Blob([steps.toFile(desk.state.doc)], {type: "application/json"}), "json");
 byId("back").onclick = doing(() => change(steps.undone));

@@ -34,8 +34,13 @@ function drawNotes() {
   const {read} = state;
   if (!isRead(state)) return;
   const other = read.isOther ? tr("It isn't in UTF-8 and was read as Windows text: look at its letters.") : "";
-  byId("read").textContent = [typed().name, read.shop && described(read.shop), read.rounded, other].filter(Boolean)
-    .join(": ") + (isTooLarge ? ` ${tr("It is too large to survive a reload of the page.")}` : "");
+  const [rows, columns] = read.hidden || [0, 0], {own} = read;
+  const hidden = rows + columns ? tr("hidden rows: {rows}, hidden columns: {columns}, which are read too",
+                                     {rows, columns}) : "";
+  const used = own?.typed ? tr("the options of its sheet pfs are used") : "";
+  const unused = own?.unused?.length ? `${tr("but for these:")} ${own.unused.join(", ")}` : "";
+  byId("read").textContent = [typed().name, read.shop && described(read.shop), read.rounded, hidden, used, unused,
+                              other].filter(Boolean).join(": ") + (isTooLarge ? ` ${tr("It is too large to survive a reload of the page.")}` : "");
 }
 function drawRead(read) {
   const lines = new Map(typed().rows.map(row => [row[0], row]));
