@@ -291,7 +291,7 @@ def test_each_step_in_german(page: Page) -> None:
         Play(page, {"woche.xlsx": BOOK, "laden.csv": LADEN.encode("cp1252")}).play(script)
     finally:
         page.browser.execute_cdp_cmd("Page.removeScriptToEvaluateOnNewDocument", watch)
-    assert [" 422 " in each for each in page.logged()] == [True] * 3, "the plans without a beginning"
+    assert [" 422 " in each for each in page.logged()] == [True] * 4, "other jobs, and plans without a beginning"
 
 
 # Looks at a list of many rows as it is scrolled, and at what gets the focus there.

@@ -7,6 +7,7 @@ import contextlib
 import csv
 import io
 import pathlib
+import re
 import zipfile
 from typing import Any
 
@@ -26,6 +27,7 @@ from pfs.web.apart import Wrong
 
 # The most times of a table, faults that are listed, and letters of a text.
 MOST_TIMES, MOST_FAULTS, MOST_LETTERS = 400_000, 2_000, 10_000
+DAY_OF = {"mo": "mon", "di": "tue", "mi": "wed", "do": "thu", "fr": "fri", "sa": "sat", "so": "sun"}
 OTHER_FORM = Wrong("the request has another form than those of this server's page", 400)
 
 
@@ -70,7 +72,7 @@ def read(given: dict[str, Any], folder: str) -> dict[str, Any]:
         options, book = {**options, **own.get("typed", {})}, Workbook(content, name)
         sheets, sheet = [each for each in book.names if each.casefold() != OPTIONS_SHEET], options.get("sheet")
         if own and sheet and sheet not in book.names:
-            raise Wrong(f"the sheet {OPTIONS_SHEET!r} names the sheet {sheet!r}, which the workbook lacks")
+            raise Wrong(f"{name} has no sheet {sheet!r}, but {', '.join(map(repr, book.names))}")
         table = book.csv_of(sheet := sheet if sheet in book.names else book.first, tables.MOST_ROWS + 2)
         marked, hidden = [[*place] for place in sorted(book.texts)], book.hidden
     else:
@@ -80,29 +82,27 @@ def read(given: dict[str, Any], folder: str) -> dict[str, Any]:
     if len(rows) > tables.MOST_ROWS:
         raise Wrong(f"the table has more than {tables.MOST_ROWS:,} rows")
     return {"rows": rows, "delimiter": delimiter, "texts": marked, "sheets": sheets, "sheet": sheet,
-            "isOther": bool(faults), "own": own, "hidden": hidden, **shop_of(rows, {**options, "delimiter": delimiter, "texts": marked})}
+            "isOther": bool(faults), "own": own, "hidden": hidden,
+            **shop_of(rows, {**options, "delimiter": delimiter, "texts": marked})}
 
 
 def set_in(content: bytes, path: pathlib.Path) -> dict[str, Any]:
-    """What the sheet `pfs` of a workbook sets, as `pfs-plan` reads it: options of the table, dates, and the names of the
-    options for which the page has no field."""
+    """What the sheet `pfs` of a workbook sets, as for `pfs-plan`, and the options that have no field on the page."""
     path.write_bytes(content)
     try:
         with contextlib.redirect_stderr(io.StringIO()):
             found, usual = (vars(parsed([str(each)], plan_words())) for each in (path, path.with_name("none")))
     except Misused as fault:
         raise Wrong(str(fault).removeprefix(f"{path}, ")) from None
-    given = {name: value for name, value in found.items() if value != usual[name] and name != "table"}
-    if not given:
-        return {}
-    own: dict[str, Any] = {name: given.pop(name) for name in ("unit", "sheet", "decimals") if name in given}
-    own["decimal"], own["totals"] = DECIMAL_SIGNS.get(given.pop("decimal", ""), ""), given.pop("allow_totals", False)
-    own["machines"] = next(csv.reader([given.pop("machines", "")], skipinitialspace=True), [])
-    dates = {"shifts": "\n".join(given.pop("shift", ())), "days": ",".join(given.pop("days", ())),
-             "closed": ",".join(given.pop("closed", ()))}
-    if begin := given.pop("begin", ""):
-        dates["begin"] = text_of(begin_of(begin), 0).replace(" ", "T")
-    return {"typed": own, "calendar": dates, "unused": sorted(given)}
+    given = {name for name, value in found.items() if value != usual[name]} - {"table"}
+    fields = {*"unit sheet decimals decimal machines allow_totals begin shift days closed".split()}
+    typed = {**{name: found[name] for name in ("unit", "sheet", "decimals")}, "totals": found["allow_totals"],
+             "decimal": DECIMAL_SIGNS.get(found["decimal"], ""), "machines": next(csv.reader(
+                 [found["machines"] or ""], skipinitialspace=True), [])}
+    begin = text_of(begin_of(found["begin"]), 0).replace(" ", "T") if found["begin"] else ""
+    dates = {"begin": begin, "shifts": "\n".join(found["shift"])}
+    dates |= {name: ",".join(found[name]) for name in ("days", "closed")}
+    return {"typed": typed, "calendar": dates, "unused": sorted(given - fields)} if given else {}
 
 
 def shop_of(rows: list[tuple[int, list[str]]], options: dict[str, Any]) -> dict[str, Any]:
@@ -178,18 +178,27 @@ def placed(plan: Plan, names: list[str], held: int) -> dict[str, list[str]]:
 
 def plan_from(given: dict[str, Any]) -> tuple[Plan, dict[str, Any]]:
     """The plan of a request, and what is said of it: the names of jobs that are gone or new, and whether the bound that
-    the page remembers is of another table. One above a makespan is, whatever it says of itself."""
+    the page remembers is of another table. One above a makespan is of another one."""
     plan, least = Plan(shop := shop_from(given)), field(given, "least", int, 0, 2**53)
     said: dict[str, Any] = placed(plan, texts(given.get("order")), field(given, "held", int, 0, shop.jobs))
     is_known = least <= plan.schedule.makespan and plan.know(least, field(given, "digest", str, ""))
     said["isOther"] = not is_known
     # A line has a shift; a comma is between days and dates.
-    begin, shifts, days, closed = (field(field(given, "calendar", dict, {}), name, str, "").strip()
+    begin, shifts, days, closed = (plain(field(field(given, "calendar", dict, {}), name, str, "").strip())
                                    for name in ("begin", "shifts", "days", "closed"))
     plan.calendar = calendar_of(begin, [*filter(None, map(str.strip, shifts.split("\n")))], days, closed)
     # It can't name a file.
     plan.language = "de" if field(given, "language", str) == "de" else "en"
     return plan, said
+
+
+def plain(text: str) -> str:
+    """Dates, days and shifts as calendars read them, of such as Mo-Fr, 24.12.2026 and 6:00 - 14:30 with a long dash."""
+    text = re.sub("\\s*[-\u2010-\u2015]\\s*", "-", text)
+    text = re.sub(r"\b([0-9])(?=\.|:[0-9]{2})", r"0\1", text)
+    text = re.sub(r"\b([0-9]{2})\.([0-9]{2})\.([0-9]{4})\b", r"\3-\2-\1", text)
+    text = re.sub("(?<=-[0-9]{2}-[0-9]{2})-(?=[0-9]{4}-)", "..", text)
+    return re.sub(r"\b(mo|di|mi|do|fr|sa|so)\b", lambda each: DAY_OF[each[1].lower()], text, flags=re.IGNORECASE)
 
 
 def told(given: dict[str, Any], folder: str) -> dict[str, Any]:

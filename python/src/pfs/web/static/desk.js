@@ -3,7 +3,7 @@
 import {FIRST, isSame, toFile, wish} from "./document.js";
 import {fault, language, tr} from "./german.js";
 
-const token = location.hash.slice(1) || sessionStorage.getItem("token") || "";
+export const token = location.hash.slice(1) || sessionStorage.getItem("token") || "";
 sessionStorage.setItem("token", token);
 history.replaceState(null, "", location.pathname);
 // Bytes of a file, and seconds between two trials.

@@ -70,6 +70,8 @@ export const headOf = ({rows, machines}) => rows.find(([, row]) => machines.leng
 export const isMachine = ({machines}, name) => !machines.length || machines.includes(name);
 export function cellTyped(state, line, column, text) {
   const {typed, plan} = state.doc, own = typed.rows.find(row => row[0] === line);
+  // The cells of a workbook have a point, whatever its planner types.
+  if (typed.texts && column > 1 && state.language === "de") text = text.replace(/^(\d+),(\d+)$/, "$1.$2");
   const before = own && (own[1][column - 1] || "");
   if (!own || before === text) return state;
   const cells = Array.from({length: Math.max(column, own[1].length)}, (_, at) => own[1][at] || "");
@@ -81,6 +83,27 @@ export function cellTyped(state, line, column, text) {
   // A job that has another name keeps its place.
   return isHead || column > 1 || !plan ? next
     : {...next, doc: {...next.doc, plan: {...plan, order: renamed(plan.order)}}};
+}
+// The cells without a time of jobs that have others: where a job skips a machine, these have blanks or dashes.
+export function skipsOf(state) {
+  const {doc: {typed}, read} = state, head = isRead(state) && read.faults.length ? headOf(typed) : null;
+  if (!head) return [];
+  const isFaulty = (line, column) => read.faults.some(each => each.line === line && each.column === column);
+  const columns = head[1].flatMap((name, at) => at && name && isMachine(typed, name) && !isFaulty(head[0], at + 1)
+    ? [at] : []);
+  return typed.rows.filter(([line, cells]) => line > head[0] && cells[0] && !isFaulty(line, 1)
+      && columns.some(at => /^\d/.test(cells[at] || "")))
+    .flatMap(([line, cells]) => columns.filter(at => /^[-\u2010-\u2015]?$/.test(cells[at] || ""))
+      .map(at => [line, at + 1]));
+}
+export function skipsFilled(state) {
+  const rows = new Map(state.doc.typed.rows.map(([line, cells]) => [line, [...cells]]));
+  for (const [line, column] of skipsOf(state)) {
+    const cells = rows.get(line);
+    while (cells.length < column) cells.push("");
+    cells[column - 1] = "0";
+  }
+  return typedAs(state, "edit", {rows: [...rows]});
 }
 export const rowLeft = (state, line) => typedAs(state, "row", {
   rows: state.doc.typed.rows.filter(row => row[0] !== line)});

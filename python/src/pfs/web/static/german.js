@@ -1,7 +1,6 @@
 // The texts of the page in German. What the server says of tables is translated by patterns; the rest of it is English.
 const GERMAN = {
-  "Plan a flow shop": "Fließfertigung planen", "Language": "Sprache",
-  "What is planned?": "Was wird geplant?",
+  "Plan a flow shop": "Fließfertigung planen", "Language": "Sprache", "What is planned?": "Was wird geplant?",
   "An order of jobs for which all are finished early. It is the same on each machine: no job overtakes another.":
     "Eine Reihenfolge, in der alle Aufträge früh fertig sind. Sie ist auf jeder Maschine gleich: keiner überholt.",
   "Each job goes through the machines in the order of the columns, and may wait between two of them.":
@@ -49,6 +48,7 @@ was saved here (.json) opens too.":
   "hidden rows: {rows}, hidden columns: {columns}, which are read too":
     "ausgeblendete Zeilen: {rows}, ausgeblendete Spalten: {columns}, auch sie werden gelesen",
   "the options of its sheet pfs are used": "die Optionen im Blatt pfs gelten", "but for these:": "außer diesen:",
+  "0 in these {count} cells": "0 in diese {count} Zellen",
   "The machines are:": "Die Maschinen sind:", "Row": "Zeile", "and {more} more": "und {more} weitere",
   "{jobs} jobs, {machines} machines ({names}), times in {unit}, decimals: {decimals}":
     "{jobs} Aufträge, {machines} Maschinen ({names}), Zeiten in {unit}, Nachkommastellen: {decimals}",
@@ -73,15 +73,26 @@ const FAULTS = [
   [/^the time is missing: .*/, "die Zeit fehlt: 0, wo ein Auftrag eine Maschine auslässt"],
   [/^the row has no times: .*/, "die Zeile hat keine Zeiten: weglassen, oder 0 eintragen"],
   [/^'(.*)' isn't a time: leave the column out.*/, "'$1' ist keine Zeit: Haken entfernen, wenn es keine Maschine ist"],
+  [/^'(.*)' isn't a time: write 0.*/, "'$1' ist keine Zeit: 0, wo ein Auftrag eine Maschine auslässt"],
+  [/^'(.*)' isn't a time: it is text.*/, "'$1' ist Text, der wie eine Zahl aussieht: die Zahl neu eingeben"],
   [/^'(.*)' isn't a time: the formula has an error/, "'$1' ist keine Zeit: die Formel hat einen Fehler"],
   [/^'(.*)' isn't a time.*/, "'$1' ist keine Zeit"],
   [/^the (row|column) '(.*)' looks like a (?:sum|mean).*/, "'$2' sieht nach einer Summe aus: weglassen"],
   [/^the (?:job|machine) '(.*)' is in (\w+) too/, "'$1' steht auch in $2"],
   [/^the (?:job|machine) has no name.*/, "der Name fehlt"],
   [/^'(.*)' may be (\d+), or have decimals.*/, "'$1' kann $2 sein oder Nachkommastellen haben: Dezimalzeichen wählen"],
+  [/^'(.*)' is not a shift.*/, "'$1' ist keine Schicht wie 06:00-14:00"],
+  [/^the shift '(.*)' (starts|has).*/, "die Schicht '$1' hat keine Länge: ein ganzer Tag ist 00:00-24:00"],
+  [/^shifts overlap on (.*) at (.*)/, "Schichten überschneiden sich: $1, $2"],
+  [/^'(.*)' is not a day of the week.*/, "'$1' ist kein Wochentag wie Mo, und nicht wie Mo-Fr"],
+  [/^('.*' has the same day|the day .* is there) twice.*/, "ein Wochentag steht zweimal da"],
+  [/^'(.*)' is not a (date|first and).*/, "'$1' ist kein Datum wie 24.12.2026, und nicht wie 24.12.2026-01.01.2027"],
+  [/.* is more than ten years after the begin/, "die Feiertage liegen mehr als zehn Jahre nach dem Arbeitsbeginn"],
+  [/.*, which dates need: .*/, "Termine brauchen eine Einheit der Zeiten: min, h, s oder d"],
+  [/^no job of the table is named.*/, "Kein Auftrag der Tabelle ist in dieser Reihenfolge."],
   [/.* needs "Work begins", .*/, "Bitte bei „Termine und Schichten“ den Arbeitsbeginn eintragen."],
   [/^(the server (is busy|has too)|too many searches).*/, "der Server ist ausgelastet: bitte bald noch einmal"],
-  [/^The token is missing or wrong.*/, "In der Adresse fehlt das Kennwort: die Adresse öffnen, die der Server nennt."],
+  [/^The token is missing or wrong.*/, "In der Adresse fehlt das Kennwort: bitte nach der ganzen Adresse fragen."],
 ];
 export const language = localStorage.getItem("language") || (navigator.language.startsWith("de") ? "de" : "en");
 // A text of the page in its language, with values in place of {names}.
@@ -90,8 +101,9 @@ export function tr(text, values = {}) {
 }
 // What the server says.
 export function fault(text) {
-  const found = language === "de" && FAULTS.find(([pattern]) => pattern.test(text));
-  return found ? text.trim().replace(...found) : text;
+  const [, own, more] = /^(.*?)(?: \(and (\d+) more cells? of the column\))?$/s.exec(text);
+  const found = language === "de" && FAULTS.find(([pattern]) => pattern.test(own));
+  return found ? own.trim().replace(...found) + (more ? ` (und ${more} weitere in der Spalte)` : "") : text;
 }
 document.documentElement.lang = language;
 const texts = document.createTreeWalker(document.documentElement, NodeFilter.SHOW_TEXT);

@@ -1,7 +1,7 @@
 // The page: files, options, dates, and what is drawn when.
 import * as desk from "./desk.js";
 import * as steps from "./document.js";
-import {tr} from "./german.js";
+import {fault, tr} from "./german.js";
 import {byId} from "./lists.js";
 import {download, drawResult} from "./result.js";
 import {enough, follow, search} from "./search.js";
@@ -47,17 +47,15 @@ async function contentOf(file) {
   return reader.result.split("base64,")[1] || "";
 }
 function documentIn(content) {
-  const bytes = Uint8Array.from(atob(content), letter => letter.charCodeAt(0));
-  const doc = steps.fromFile(new TextDecoder().decode(bytes));
+  const doc = steps.fromFile(new TextDecoder().decode(Uint8Array.from(atob(content), each => each.charCodeAt(0))));
   if (!doc) throw new Error(tr("This isn't a document that this page has saved."));
   return doc;
 }
 const take = doing(async file => {
-  document.activeElement.blur();
   const content = await contentOf(file);
-  if (!isDocument(file)) { change(now => steps.openingOf(now, content, file.name)); return; }
-  const doc = documentIn(content);
-  change(now => steps.documentOpened(now, doc));
+  document.activeElement.blur();
+  const doc = isDocument(file) && documentIn(content);
+  change(now => doc ? steps.documentOpened(now, doc) : steps.openingOf(now, content, file.name));
 });
 byId("from").onchange = doing(async ({target}) => {
   const [file] = target.files, content = await contentOf(file);
@@ -69,7 +67,7 @@ byId("from").onchange = doing(async ({target}) => {
   if (!taken || taken === desk.state) throw new Error(tr("No job of the table is in this order."));
   change(() => taken);
 });
-byId("save").onclick = () => download(new Blob([steps.toFile(desk.state.doc)], {type: "application/json"}), "json");
+byId("save").onclick = () => download(new Blob([steps.toFile(desk.state.doc)]), "json");
 byId("back").onclick = doing(() => change(steps.undone));
 byId("file").onchange = async event => { await take(event.target.files[0]); event.target.value = ""; };
 for (const kind of ["dragover", "dragleave", "drop"]) window.addEventListener(kind, event => {
@@ -103,5 +101,6 @@ if (doc) change(now => ({...now, doc, before: before && {what: step.what, doc: b
                          search: own?.name ? {...own, isOld: true, plan: doc.plan} : null}));
 desk.start(draw);
 if (desk.state.search) doing(follow)();
+else if (!desk.token) say(fault("The token is missing or wrong: ask for the whole address of the page."));
 // For tests, and for those who look at the page from the browser's console.
 window.desk = {get state() { return desk.state; }, change, steps, say, take};

@@ -1,6 +1,6 @@
 // Draws the table, and changes it.
 import {change, doing, isTooLarge, settled, state, trouble} from "./desk.js";
-import {cellTyped, headOf, isMachine, isRead, rowAdded, rowLeft, typedAs} from "./document.js";
+import {cellTyped, headOf, isMachine, isRead, rowAdded, rowLeft, skipsFilled, skipsOf, typedAs} from "./document.js";
 import {fault, tr} from "./german.js";
 import {byId, control, isDrawing, letters, listIn, made, rowOf} from "./lists.js";
 
@@ -22,7 +22,7 @@ export function drawTable() {
   }
   for (const id of ["read", "faults"]) byId(id).classList.toggle("unread", !isRead(state));
   byId("table").classList.toggle("waits", !isRead(state) && Boolean(trouble()));
-  drawNotes();
+  if (isRead(state)) drawNotes(read);
   if (shown.typed === typed() && shown.read === read) return;
   Object.assign(shown, {typed: typed(), read});
   for (const name of ["unit", "decimal", "decimals"]) byId(name).value = typed()[name];
@@ -30,17 +30,16 @@ export function drawTable() {
   if (isRead(state)) drawRead(read);
   cells.show(typed().rows.length);
 }
-function drawNotes() {
-  const {read} = state;
-  if (!isRead(state)) return;
+function drawNotes(read) {
   const other = read.isOther ? tr("It isn't in UTF-8 and was read as Windows text: look at its letters.") : "";
   const [rows, columns] = read.hidden || [0, 0], {own} = read;
   const hidden = rows + columns ? tr("hidden rows: {rows}, hidden columns: {columns}, which are read too",
                                      {rows, columns}) : "";
   const used = own?.typed ? tr("the options of its sheet pfs are used") : "";
   const unused = own?.unused?.length ? `${tr("but for these:")} ${own.unused.join(", ")}` : "";
+  const large = isTooLarge ? ` ${tr("It is too large to survive a reload of the page.")}` : "";
   byId("read").textContent = [typed().name, read.shop && described(read.shop), read.rounded, hidden, used, unused,
-                              other].filter(Boolean).join(": ") + (isTooLarge ? ` ${tr("It is too large to survive a reload of the page.")}` : "");
+                              other].filter(Boolean).join(": ") + large;
 }
 function drawRead(read) {
   const lines = new Map(typed().rows.map(row => [row[0], row]));
@@ -54,6 +53,17 @@ function drawRead(read) {
   byId("sheet").parentElement.hidden = !read.content || byId("sheet").options.length < 2;
   byId("suggest").hidden = !read.suggested.length || typed().machines.length;
   byId("suggest").textContent = `${tr("The machines are:")} ${read.suggested.join(", ")}`;
+  const skips = skipsOf(state);
+  byId("skips").hidden = skips.length < 2;
+  byId("skips").textContent = tr("0 in these {count} cells", {count: skips.length});
+  // Of the cells of a kind in a column, the server names the first one.
+  for (const {line, column, text} of read.faults) {
+    if (!/ \(and \d+ more cells? of the column\)$/.test(text)) continue;
+    for (const row of typed().rows) {
+      const isNone = row[0] > line && row[1][0] && !/^\d+([.,]\d+)?$/.test(row[1][column - 1] || "");
+      if (isNone && !saidOf(row, column)) wrong.set(row, (wrong.get(row) || new Map()).set(column, fault(text)));
+    }
+  }
   byId("faults").replaceChildren(...read.faults.map(({line, column, text}) => {
     const item = made("li", null), cell = (column ? letters(column) : `${tr("Row")} `) + line;
     made("button", `${cell}: ${fault(text)}`, item, {onclick: () =>
@@ -98,6 +108,7 @@ function drawRow(at) {
   }
   return drawn;
 }
+byId("skips").onclick = doing(() => change(skipsFilled));
 byId("suggest").onclick = doing(() => change(now => typedAs(now, "machines", {machines: now.read.suggested})));
 byId("all").onclick = doing(() => change(now => typedAs(now, "machines", {machines: []})));
 byId("add").onclick = doing(async () => {
