@@ -248,6 +248,18 @@ int pfs_makespans(struct pfs_instance *instance, const uint32_t *sequences, size
  */
 int pfs_bound(struct pfs_instance *instance, uint64_t *bound) PFS_CHECKED;
 
+/** @brief Computes a lower bound of the makespans of all orders by pairs of machines. Time O(m²n log n). Allocates.
+ *
+ * The bound is the greatest of that of pfs_bound and of a sum for each pair of machines (Lageweg, Lenstra and Rinnooy
+ * Kan 1978): the least makespan on these two machines, by Johnson's rule (1954), if the machines between them could
+ * process all jobs at once, plus the least time that a job takes on the machines before the first, plus the least time
+ * that a job takes on those after the second. Since version 2.1.0.
+ *
+ * @param[out] bound the lower bound, at least that of pfs_bound
+ * @return PFS_OK, or the first of PFS_NOT_PREPARED (instance), PFS_MEMORY
+ */
+int pfs_pairs_bound(struct pfs_instance *instance, uint64_t *bound) PFS_CHECKED;
+
 /** @brief Computes when each operation of an order starts and ends, each as early as possible. Time O(nm). Allocates.
  *
  * Entry place * machines + machine belongs to the job at this place of the order, on this machine.
@@ -311,7 +323,7 @@ int pfs_rounds(struct pfs_instance *instance, const struct pfs_rounds_options *o
  * The search is branch and bound from both ends of the order (Ladhari and Haouari 2005; Gmys, Mezmaz, Melab and
  * Tuyttens 2020). It begins with the given order, any order of all jobs, which is replaced by the best one found. A
  * node is a set of orders that begin with some jobs and end with some; its time is O(nm). Before the first one, pairs
- * of machines raise the bound, in time O(n²m²). The search ends after `nodes` nodes. Unless all of these are used,
+ * of machines raise the bound, in time O(m²n log n). The search ends after `nodes` nodes. Unless all of these are used,
  * `left` is above 0, and the bound is the makespan: the order is optimal. A search has at most as many nodes as there
  * are sequences of distinct jobs, of any length: 9,864,101 for 10 jobs.
  *

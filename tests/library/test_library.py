@@ -26,7 +26,7 @@ CALLS = SUPPORT / "library_calls.c"
 # The functions that allocate nothing once their instance is prepared, those that do, and those that need none.
 QUIET = ["sizes", "faulty_job", "makespan", "makespans", "bound", "neh", "rounds", "iterate", "insert", "insert_ties",
          "insertions", "heads_tails", "construct", "construct_ties", "local_search", "local_search_ties"]
-LOUD = ["table", "prove", "write"]
+LOUD = ["pairs_bound", "table", "prove", "write"]
 OTHERS = ["random", "generate", "read", "read_order", "write_order"]
 FUNCTIONS = [*QUIET, *LOUD, *OTHERS, "prepare", "release"]
 TEXTS = {"pfs_message", "pfs_version", "pfs_version_number"}
@@ -34,7 +34,7 @@ NAMES = {f"pfs_{name}" for name in FUNCTIONS} | TEXTS
 # The arguments of library_calls: the functions, and calls on a larger instance.
 NAMED = [*QUIET, *LOUD, *OTHERS, "prepare", "prepare_again", "prepare_large", "insert_large", "makespans_large",
          "search_large"]
-ALL_CALLS = Ran(b"223 calls, 0 failures\n", b"", 0)
+ALL_CALLS = Ran(b"228 calls, 0 failures\n", b"", 0)
 # No call makes as many allocations.
 MOST_GROWTHS = 200
 SHOPS = 200
@@ -320,6 +320,7 @@ def searches(random: Random, shop: Instance) -> list[Call]:
         ("pfs_makespan", [*given(shop), *list32(some), out64()]),
         ("pfs_makespans", [*given(shop), *list32(sequences), Number(length), *list64([PATTERN] * count)]),
         ("pfs_bound", [*given(shop), out64()]),
+        ("pfs_pairs_bound", [*given(shop), out64()]),
         ("pfs_table", [*given(shop), *list32(jobs), *list64([PATTERN] * size), *list64([PATTERN] * size)]),
         ("pfs_neh", [*given(shop), out32(shop.jobs), Number(shop.jobs, is_length=True), out64(), out64()]),
         ("pfs_rounds", [*given(shop), Memory(OPTIONS.pack(random.choice(fuzz.SEEDS[:-1]), random.randint(1, shop.jobs),
@@ -372,7 +373,7 @@ def files(random: Random, shop: Instance) -> list[Call]:
 
 
 def spoilt(random: Random, arguments: Arguments) -> Arguments:
-    """The arguments with one or two numbers changed, or a number in a list that is read."""
+    """The arguments with one or two numbers changed, or one or two in a list that is read."""
     arguments = list(arguments)
     for _ in range(random.randint(1, 2)):
         place = random.randrange(len(arguments))
@@ -380,8 +381,10 @@ def spoilt(random: Random, arguments: Arguments) -> Arguments:
         if isinstance(argument, Memory):
             if len(argument.content) % 4 == 0 and len(argument.content) >= 12:
                 numbers = read32(argument.content)
-                changed = random.choice([0, 1, 9, 1_000_000_000, 1_000_000_001, 2**32 - 1])
-                numbers[random.randrange(len(numbers))] = changed
+                one, other = random.randrange(len(numbers)), random.randrange(len(numbers))
+                numbers[one], numbers[other] = numbers[other], numbers[one]
+                if random.random() < 0.7:
+                    numbers[one] = random.choice([0, 1, 9, 1_000_000_000, 1_000_000_001, 2**32 - 1])
                 arguments[place] = u32s(numbers)
         elif argument.is_length:
             arguments[place] = argument._replace(value=random.randint(0, argument.value))
@@ -429,7 +432,7 @@ def assert_same(libpfs: Library, name: str, arguments: Arguments) -> int:
 @pytest.mark.quick
 @pytest.mark.seconds(10)
 def test_two_libraries_agree_on_random_instances(libpfs: Library) -> None:
-    random = Random(7)
+    random = Random(1)
     numbers = set[int]()
     for _ in range(SHOPS):
         for name, arguments in searches(random, shop_of(random)):

@@ -158,6 +158,8 @@ def test_other_states_are_rejected(folder: pathlib.Path, case: str) -> None:
     change, why = OTHER_STATES[case]
     fields = json.loads((folder / "state").read_text())
     assert summed(fields) == (folder / "state").read_text().strip()
+    times = shop_in(folder).times
+    assert fields["instance"] == hashlib.sha256(b"(60, 10)" + times.astype("u4").tobytes()).hexdigest()
     (folder / "state").write_text(change(fields), "utf-8", "surrogateescape")
     kept = (folder / "state").read_bytes()
     run([*LONG, "--rounds", "9", "--state", "state"], folder, 2, f"pfs: state: {why}\n")

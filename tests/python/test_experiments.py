@@ -535,8 +535,8 @@ def test_a_shorter_order_that_is_proved_is_kept(experiment: Experiment) -> None:
                                                           f"{row['makespan']}")
     for damaged in ("{", "[1]", "null", '{"shops/six": 1}', '{"shops/six": {"bound": 9, "makespan": 8, "order": ""}}'):
         (experiment.runs / "proofs.json").write_text(damaged)
-        for command in ("prove", "status"):
-            assert_refused(experiment.script(command, "out.csv"), "out.csv.d/proofs.json is damaged: delete it, and")
+        for name in ("prove", "status"):
+            assert_refused(experiment.script(name, "out.csv"), "out.csv.d/proofs.json is damaged: delete it, and")
 
 
 def test_a_csv_that_pandas_wrote_is_the_same(experiment: Experiment) -> None:

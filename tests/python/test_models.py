@@ -108,7 +108,11 @@ def verdict_on(times: plainly.Table, numbers: list[int], stated: int, first: int
         right = "valid and optimal" if takes == plainly.bound(times) else reference
         return takes, right if stated == takes else f"wrong makespan: states {stated}, takes {takes}"
     if sorted(numbers) == [*range(1 - first, 1 - first + count)]:
-        return None, f"counted from {1 - first}"
+        takes = plainly.makespan(times, [number - 1 + first for number in numbers])
+        return (takes, f"valid, counted from {1 - first}") if takes == stated else (None, f"counted from {1 - first}")
+    for inside in (numbers[1:], numbers[:-1], numbers[1:-1]):
+        if first == 1 and sorted(inside) == [*range(1, count + 1)] and {*numbers} == {0, *inside}:
+            return None, f"wrong size: {len(jobs)} jobs, but the instance has {count}; without the 0 at the "
     if abs(len(jobs) - count) > 1:
         return None, f"wrong size: {len(jobs)} jobs, but the instance has {count}"
     for place, job in enumerate(jobs):

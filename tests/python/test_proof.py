@@ -38,18 +38,17 @@ def test_no_order_is_shorter(case: tuple[plainly.Table, list[int]], nodes: int) 
 
 
 def test_pairs_of_machines_raise_the_bound() -> None:
-    """Before the first node, and at most as far as they do in Python, with greater times before and after them."""
+    """Before the first node, to their bound."""
     chance = np.random.default_rng(1)
-    is_raised = is_same = 0
+    is_raised = 0
     for _ in range(60):
         sizes = chance.uniform(0.3, 3, (int(chance.integers(2, 12)), 1))
         shop = pfs.Instance((sizes * chance.uniform(10, 40, (len(sizes), int(chance.integers(2, 6))))).astype(int))
         call = _proof.Call(shop, shop.neh().order.astype(np.uint32).tobytes(), 0)
         call.run()
-        assert shop.bound() <= call.bound.value <= shop.bound("pairs") <= shop.optimum(60).makespan
+        assert shop.bound() <= call.bound.value == shop.bound("pairs") <= shop.optimum(60).makespan
         is_raised += shop.bound() < call.bound.value
-        is_same += shop.bound() < call.bound.value == shop.bound("pairs")
-    assert is_raised > 30 and is_same > 20
+    assert is_raised > 30
 
 
 def test_without_a_proof_nothing_is_optimal_but_at_the_bound() -> None:

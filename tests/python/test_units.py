@@ -19,7 +19,6 @@ from pfs.base import checkout, workbooks as _workbooks
 from pfs.base.faults import Refused
 from pfs.base.units import seconds_in
 from pfs.base.version import VERSION
-from pfs.binding import library as _library
 from pfs.commands import cli as _cli, gantt as _gantt
 from pfs.commands.main import plan_words, words
 from pfs.experiments import ExperimentError, folders, plan, run
@@ -292,7 +291,7 @@ def archive_of(**parts: bytes) -> zipfile.ZipFile:
 def test_the_largest_parts_of_workbooks(parts: dict[str, bytes], why: str, monkeypatch: pytest.MonkeyPatch) -> None:
     for name, most in (("MOST_TAGS", 10), ("MOST_STYLES", 8), ("MOST_IN_ROW", 5), ("MOST_CELLS", 10)):
         monkeypatch.setattr(_workbooks, name, most)
-    monkeypatch.setattr(_library, "LONGEST_INPUT", 100)
+    monkeypatch.setattr(_workbooks, "MOST_UNPACKED", 400)
     if why:
         with pytest.raises(ValueError, match=f"^{re.escape(why)}$"):
             _workbooks.check_parts(archive_of(**parts))

@@ -326,7 +326,7 @@ def test_an_order_that_changes_while_it_is_used_is_validated_as_a_copy(monkeypat
 # A call of each function of the library.
 CALLS: dict[str, Callable[[], Any]] = {
     "pfs_prepare": lambda: pfs.Instance(TIMES).bound(), "pfs_makespan": lambda: SHOP.makespan([0, 1, 2]),
-    "pfs_bound": SHOP.bound, "pfs_neh": SHOP.neh,
+    "pfs_bound": SHOP.bound, "pfs_pairs_bound": lambda: SHOP.bound("pairs"), "pfs_neh": SHOP.neh,
     "pfs_table": lambda: SHOP.schedule([0, 1, 2]), "pfs_rounds": lambda: SHOP.solve(1, start=[0, 1, 2]),
     "pfs_insert_ties": lambda: SHOP.best_place([0, 1], 2, ties="idle"),
     "pfs_construct_ties": lambda: SHOP.insert_all([0], [1], ties="idle"),

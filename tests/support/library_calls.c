@@ -140,6 +140,8 @@ static int call_named(const char *name) {
                pfs_makespans(shop, (uint32_t[]){1, 0, 2, 0, 1, 2}, 6, 3, out.makespans, 2);
     if (IS("bound"))
         return due.bound = 10, pfs_bound(shop, &out.bound);
+    if (IS("pairs_bound"))
+        return due.bound = 10, pfs_pairs_bound(shop, &out.bound);
     if (IS("table"))
         return memcpy(due.starts, (uint64_t[]){0, 2, 2, 7, 5, 9}, 48),
                memcpy(due.ends, (uint64_t[]){2, 7, 5, 9, 9, 10}, 48),
@@ -212,12 +214,32 @@ static int call_named(const char *name) {
     return PFS_OK;
 }
 
-static const char *const NAMES[] = {
-    "sizes",      "faulty_job",  "makespan",  "makespans",      "bound",        "table",
-    "neh",        "rounds",      "iterate",   "prove",          "insert",       "insert_ties",
-    "insertions", "heads_tails", "construct", "construct_ties", "local_search", "local_search_ties",
-    "write",      "generate",    "random",    "read",           "read_order",   "write_order"};
-enum { ON_SHOP = 19 };
+static const char *const NAMES[] = {"sizes",
+                                    "faulty_job",
+                                    "makespan",
+                                    "makespans",
+                                    "bound",
+                                    "pairs_bound",
+                                    "table",
+                                    "neh",
+                                    "rounds",
+                                    "iterate",
+                                    "prove",
+                                    "insert",
+                                    "insert_ties",
+                                    "insertions",
+                                    "heads_tails",
+                                    "construct",
+                                    "construct_ties",
+                                    "local_search",
+                                    "local_search_ties",
+                                    "write",
+                                    "generate",
+                                    "random",
+                                    "read",
+                                    "read_order",
+                                    "write_order"};
+enum { ON_SHOP = 20 };
 
 /* What is wrong in a call on an instance, after the instance itself. */
 static void wrong_calls(void) {

@@ -142,6 +142,10 @@ def pfs_bound(shop: Instance, bound: bytearray) -> None:
     put64(bound, second_program.lower_bound(shop))
 
 
+def pfs_pairs_bound(shop: Instance, bound: bytearray) -> None:
+    put64(bound, max([second_program.lower_bound(shop), *bounds_of_pairs(shop)]))
+
+
 def pfs_table(shop: Instance, order: bytearray, length: int, starts: bytearray, starts_length: int, ends: bytearray,
               ends_length: int) -> None:
     expect(length == shop.jobs and starts_length == ends_length == shop.jobs * shop.machines, LENGTH)
@@ -193,20 +197,22 @@ def pfs_prove(shop: Instance, order: bytearray, length: int, nodes: int, span: b
     given = distinct(shop.jobs, read32(order)[:length])
     expect(shop.jobs <= 256 and shop.machines <= 64, SIZE)
     put64(span, makespan(shop, given))
-    put64(bound, max([second_program.lower_bound(shop), *bounds_of_pairs(shop)]))
+    pfs_pairs_bound(shop, bound)
     put64(left, nodes)
 
 
 def bounds_of_pairs(shop: Instance) -> Iterator[int]:
     """Of each pair of machines the least makespan with the lags between them, by Johnson's rule (1954), and the least
-    time of any job on each machine before and after them."""
-    least = [min(row) for row in shop.times]
+    time of any job on the machines before and on those after them."""
+    def least(rows: Sequence[Sequence[int]]) -> int:
+        return min((sum(row[job] for row in rows) for job in range(shop.jobs)))
+
     for one, other in itertools.combinations(range(shop.machines), 2):
         first, second = shop.times[one], shop.times[other]
         lags = [sum(row[job] for row in shop.times[one + 1:other]) for job in range(shop.jobs)]
         order = sorted(range(shop.jobs), key=lambda job: (0, first[job] + lags[job]) if first[job] <= second[job]
                        else (1, -second[job] - lags[job]))
-        yield sum(least[:one]) + sum(least[other + 1:]) + max(
+        yield least(shop.times[:one]) + least(shop.times[other + 1:]) + max(
             sum(first[each] for each in order[:at + 1]) + lags[job] + sum(second[each] for each in order[at:])
             for at, job in enumerate(order))
 

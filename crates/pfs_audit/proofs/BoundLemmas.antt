@@ -10,10 +10,10 @@ use Rattle.pfs_base.specs.Paths.{greatest, makespan, operation}
 use Rattle.pfs_base.proofs.Published.Heads.{head, head_step, makespan_is}
 use Rattle.pfs_order.specs.Sequence.{IsSequence}
 use Rattle.pfs_order.proofs.Published.Sequences.{Contains-all}
-use Rattle.pfs_audit.specs.Bound.{least, time_on, machine_bound, BoundLaw}
+use Rattle.pfs_audit.specs.Bound.{time_on, machine_bound, BoundLaw}
 use Rattle.pfs_audit.proofs.Published.LeastTimes.{head_along, least-range-le}
 use Rattle.pfs_audit.proofs.Published.Orders.{sum_by-order, sum_by-all_rows}
-use Rattle.pfs_audit.proofs.Published.Ranges.{sum_by-range-suc, sum_by-below-suc, greatest-range-more, least-range-more}
+use Rattle.pfs_audit.proofs.Published.Ranges.{sum_by-range-suc, sum_by-below-suc, greatest-range-more}
 use Rattle.pfs_audit.proofs.Published.Ranges.{total_of-is}
 
 greatest-range-le : (f : ℕ → ℕ) (n limit : ℕ) → ((x : ℕ) → x < n → f x ≤ limit)

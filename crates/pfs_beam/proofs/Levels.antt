@@ -9,7 +9,7 @@ use Rattle.pfs_base.specs.Paths.{makespan}
 use Rattle.pfs_beam.specs.Private.Nodes.{AreChildren, AreGrown, AreKnown, AreListedOrLow, AreWhole, Covers, IsBounded, IsGrown, IsListedOrLow, IsLow, IsLowWith, IsNode, moved_of}
 use Rattle.pfs_beam.proofs.Lists.{back_kept, back_moved, front_kept, front_moved, open_place}
 use Rattle.pfs_exact.specs.Private.Nodes.{IsOpen, NoneShorter}
-use Rattle.pfs_exact.proofs.GrownEnds.{back_every, from_none, front_every, none_shorter-le}
+use Rattle.pfs_exact.proofs.Published.Times.{back_every, from_none, front_every, none_shorter-le}
 use Rattle.pfs_beam.specs.declared.children.Child.{Child}
 use Rattle.pfs_beam.specs.declared.node.Node.{Node}
 

@@ -14,7 +14,7 @@ use Rattle.pfs_base.specs.Lists.{below, first_some}
 use Rattle.pfs_base.proofs.Published.Lists.{by_push, first_some-append, range_with_len-push, map-range_with_len-same}
 use Rattle.pfs_order.specs.Sequence.{IsSequence}
 use Rattle.pfs_order.proofs.Published.Sequences.{IsSequence-nil, IsSequence-cons, IsSequence-first, IsSequence-head}
-use Rattle.pfs_order.proofs.Published.Sequences.{IsSequence-permutation, IsSequence-rest}
+use Rattle.pfs_order.proofs.Published.Sequences.{IsSequence-permutation, IsSequence-rest, length-le-size}
 use Rattle.pfs_c.specs.declared.numbers.CallFault.{CallFault}
 use Rattle.pfs_c.specs.declared.numbers.CallFault.TheVariants.{Job, Repeated}
 use Rattle.pfs_c.specs.Private.Outcomes.{Validates}
@@ -54,6 +54,9 @@ first_below f (suc count) k why within none there = below_more f count ∙ elim 
   | inl earlier ↦ rw (first_below f count k why earlier none there) refl
   | inr last ↦ let same : k ≡ count = omega arith in rw (none_below f count (rw same at none), rw same at there) refl
 ]
+
+pub few_jobs : (size : ℕ) (jobs : List ℕ) → IsSequence size jobs → length jobs ≤ size
+few_jobs = length-le-size
 
 -- ---- sequences with one more job
 

@@ -1,166 +1,133 @@
--- Rows of heads and tails, as loops over the machines fill them. Tails are the heads of the reverse.
-use Rattle.std.proofs.Common.{◌≡◌, ◌≢◌, ℕ, zero, suc, ◌+◌, ◌-◌, ◌*◌, ◌<◌, ◌≤◌, max, Bool, true, false, List, length}
-use Rattle.std.proofs.Common.{get_or, set, take, replicate, refl, sym, ap, ◌∙◌, inl, inr, ◌⊎◌, add-one, arith, rules}
+-- Rows of tails, and tables with rows of heads or of tails.
+use Rattle.std.proofs.Common.{◌≡◌, ◌≢◌, ℕ, zero, suc, ◌+◌, ◌-◌, ◌*◌, ◌<◌, ◌≤◌, max, List, length, nat_lt}
+use Rattle.std.proofs.Common.{get_or, set, take, replicate, refl, sym, ◌∙◌, inl, inr, ◌⊎◌, if◌then◌else◌, arith, rules}
 use Rattle.std.proofs.Common.{length-set}
 use Rattle.std.proofs.Math.Nat.{mul-le-mul_right}
-use Rattle.std.proofs.lemmas.Bool.{cases_eq, cases_lt}
+use Rattle.std.proofs.lemmas.Bool.{cases_eq, cases_lt, lt-ltb, le-ltb}
 use Rattle.std.proofs.lemmas.List.{get_or-set_same, get_or-set_other, get_or-replicate, get_or-take, length-replicate}
 use Rattle.std.proofs.lemmas.List.{length-take-le, places}
 use Rattle.pfs_base.specs.declared.bench.TheConstants.{SPAN_MAX}
 use Rattle.pfs_base.specs.declared.limits.TheConstants.{LONGEST_TIME}
 use Rattle.pfs_base.specs.FlowShop.{FlowShop, IsWithin}
+use Rattle.pfs_base.specs.Heads.{AreOf}
 use Rattle.pfs_base.specs.Limits.{limits}
-use Rattle.pfs_base.specs.Paths.{operation, makespan}
-use Rattle.pfs_base.proofs.Published.Heads.{head, head_before, head_le, head_before_le, head_more, head_step}
-use Rattle.pfs_base.proofs.Published.Heads.{heaviest_is, makespan_is, time_of-le}
+use Rattle.pfs_base.specs.Paths.{operation}
+use Rattle.pfs_base.proofs.Published.Heads.{time_of-le}
 use Rattle.pfs_insert.specs.Exchange.{heaviest_back}
 use Rattle.pfs_insert.proofs.Published.TableRows.{back_none, back_last, back_more}
-use Rattle.pfs_order.specs.Sequence.{IsSequence}
-use Rattle.pfs_order.proofs.Published.Sequences.{length-le-size}
-use Rattle.pfs_c.specs.Private.Rows.{in_turn, turned, done_before, IsRow, AreRows}
+use Rattle.pfs_c.specs.Private.Rows.{AreTails}
 use borrow.Rule.Slice.PartMut.{put_mid}
 
--- ---- turns
-
-pub in_turn_below : (back : Bool) (count turn : ℕ) → turn < count → in_turn back count turn < count
-in_turn_below true count turn lt = omega arith
-in_turn_below false count turn lt = lt
-
-pub in_turn_twice : (back : Bool) (count turn : ℕ) → turn < count → in_turn back count (in_turn back count turn) ≡ turn
-in_turn_twice true count turn lt = omega arith
-in_turn_twice false count turn lt = refl
-
-pub in_turn_other : (back : Bool) (count a b : ℕ) → a < count → b < count → a ≢ b
-    → in_turn back count a ≢ in_turn back count b
-in_turn_other back count a b a_lt b_lt apart same = apart (sym (in_turn_twice back count a a_lt)
-    ∙ ap (in_turn back count) same ∙ in_turn_twice back count b b_lt)
-
--- ---- rows
-
-module _ (shop : FlowShop) (jobs : List ℕ) (back : Bool) where
-  abbrev pub weigh : ℕ → ℕ → ℕ
-  weigh = turned shop jobs back
-
-  done_is : (row machine : ℕ) → done_before weigh row machine ≡ head weigh row machine
-  done_is zero machine = refl
-  done_is (suc row) machine = heaviest_is weigh row machine
-
-  -- a row with the weights after `later` jobs at the first turns, and those after `count` jobs at the other ones
-  pub record RowTo (count later turn : ℕ) (row : List ℕ) : Type 0 where
-    pub wide : shop.machines ≤ length row
-    pub done : (t : ℕ) → t < turn → get_or row (in_turn back shop.machines t) 0 ≡ head weigh later t
-    pub to_do : (t : ℕ) → turn ≤ t → t < shop.machines
-        → get_or row (in_turn back shop.machines t) 0 ≡ head weigh count t
-
-  pub row_first : (count later : ℕ) (row : List ℕ) → IsRow shop jobs back count row → RowTo count later 0 row
-  row_first count later row holds = record {
-    wide = holds.wide;
-    done = λ t lt. absurd (omega arith);
-    to_do = λ t low lt. holds.each t lt ∙ done_is count t;
-  }
-
-  pub row_more : (count later turn machine : ℕ) (row : List ℕ) (new : ℕ) → RowTo count later turn row
-      → turn < shop.machines → machine ≡ in_turn back shop.machines turn
-      → new ≡ head weigh later turn → RowTo count later (turn + 1) (set row machine new)
-  row_more count later turn machine row new so_far inside is new_is =
-      rw is
-      let at = in_turn back shop.machines in
-      let other : (t : ℕ) → t < shop.machines → t ≢ turn
-      → get_or (set row (at turn) new) (at t) 0 ≡ get_or row (at t) 0 = λ t lt apart.
-      get_or-set_other row (at turn) (at t) new 0 (in_turn_other back shop.machines t turn lt inside apart) in
-      record {
-        wide = omega (arith, so_far.wide, length-set {A = ℕ});
-        done = λ t lt. elim (cases_eq t turn) [
-          | inl is ↦ rw is (get_or-set_same row (at turn) new 0
-              (omega (arith, in_turn_below back shop.machines turn inside, so_far.wide)) ∙ new_is)
-          | inr apart ↦ other t (omega arith) apart ∙ so_far.done t (omega (arith, apart))
-        ];
-        to_do = λ t low lt. other t lt (omega arith) ∙ so_far.to_do t (omega arith) lt;
-      }
-
-  -- what a step reads in the row
-  pub over_is : (count later turn machine : ℕ) (row : List ℕ) → RowTo count later turn row → turn < shop.machines
-      → machine ≡ in_turn back shop.machines turn → get_or row machine 0 ≡ head weigh count turn
-  over_is count later turn machine row so_far lt is = rw is (so_far.to_do turn (omega arith) lt)
-
-  pub row_last : (count later turn : ℕ) (row : List ℕ) → RowTo count later turn row → shop.machines ≤ turn
-      → IsRow shop jobs back later row
-  row_last count later turn row so_far all = record {
-    wide = so_far.wide;
-    each = λ t lt. so_far.done t (omega arith) ∙ sym (done_is later t);
-  }
-
-  -- the weight that a step writes, from those that it reads
-  pub weight_is : (count turn over before time : ℕ) → over ≡ head weigh count turn
-      → before ≡ head_before weigh count turn → time ≡ weigh count turn
-      → max over before + time ≡ head weigh (count + 1) turn
-  weight_is count turn over before time over_is before_is time_is =
-      omega (arith, head_more weigh count turn, over_is, before_is, time_is)
-
-  -- before the first job all weights are 0
-  pub row_none : (count : ℕ) → shop.machines ≤ count → IsRow shop jobs back 0 (replicate count 0)
-  row_none count few = record {
-    wide = omega (arith, length-replicate {A = ℕ});
-    each = λ t lt. get_or-replicate count (in_turn back shop.machines t) 0 0
-        (omega (arith, in_turn_below back shop.machines t lt));
-  }
-
-  -- ---- no sum of a few weights is too long
-
-  module _ (within : IsWithin limits shop) (sequence : IsSequence shop.jobs jobs) where
-    small : (row machine : ℕ) → weigh row machine ≤ LONGEST_TIME
-    small row machine =
-        time_of-le shop within (get_or jobs (in_turn back (length jobs) row) 0) (in_turn back shop.machines machine)
-
-    pub cell_short : (count turn over before : ℕ) → count < length jobs → turn < shop.machines
-        → over ≡ head weigh count turn → before ≡ head_before weigh count turn
-        → (over ≤ SPAN_MAX) × (before ≤ SPAN_MAX)
-    cell_short count turn over before inside lt over_is before_is =
-        let few = length-le-size shop.jobs jobs sequence in
-        let sizes = within.sizes in (
-          omega (arith, head_le weigh LONGEST_TIME small count turn, over_is, few, sizes),
-          omega (arith, head_before_le weigh LONGEST_TIME small count turn, before_is, few, sizes),
-        )
-
--- ---- what the rows are
+-- ---- tails from those of the next job
 
 module _ (shop : FlowShop) (jobs : List ℕ) where
-  -- after the last job, the head of the last machine is the makespan
-  pub heads_makespan : (row : List ℕ) → 1 ≤ shop.machines → IsRow shop jobs false (length jobs) row
-      → get_or row (shop.machines - 1) 0 ≡ makespan shop jobs
-  heads_makespan row some holds =
-      holds.each (shop.machines - 1) (omega arith) ∙ done_is shop jobs false (length jobs) (shop.machines - 1)
-      ∙ sym (makespan_is shop jobs)
+  -- the tail on a machine, and 0 after the last one
+  abbrev pub tail_from : ℕ → ℕ → ℕ
+  tail_from row machine = if nat_lt machine shop.machines then heaviest_back shop jobs row machine else 0
 
-  -- a tail is a head of the reverse
+  pub tail_from-in : (row machine : ℕ) → machine < shop.machines
+      → tail_from row machine ≡ heaviest_back shop jobs row machine
+  tail_from-in row machine lt = rw (lt-ltb machine shop.machines lt) refl
 
-  tail_weigh : (count turn row machine : ℕ) → row + suc count ≡ length jobs → machine + suc turn ≡ shop.machines
-      → turned shop jobs true count turn ≡ operation shop jobs row machine
-  tail_weigh count turn row machine rows machines =
-      let same_row : length jobs - 1 - count ≡ row = omega arith in
-      let same_machine : shop.machines - 1 - turn ≡ machine = omega arith in
-      rw (same_row, same_machine) refl
+  pub tail_from-after : (row machine : ℕ) → shop.machines ≤ machine → tail_from row machine ≡ 0
+  tail_from-after row machine all = rw (le-ltb machine shop.machines all) refl
 
-  tail_is : (count turn row machine : ℕ) → row + count ≡ length jobs → machine + suc turn ≡ shop.machines
-      → heaviest_back shop jobs row machine ≡ head (turned shop jobs true) count turn
-  tail_is zero turn row machine rows machines = back_none shop jobs row machine (omega arith)
-  tail_is (suc count) zero row machine rows machines = omega (
-    arith,
-    head_step (turned shop jobs true) count 0,
-    tail_weigh count 0 row machine rows machines,
-    back_last shop jobs row machine (omega arith) (omega arith),
-    tail_is count zero (suc row) machine (omega arith) machines,
-  )
-  tail_is (suc count) (suc turn) row machine rows machines = omega (
-    arith,
-    head_step (turned shop jobs true) count (suc turn),
-    tail_weigh count (suc turn) row machine rows machines,
-    back_more shop jobs row machine (omega arith) (omega arith),
-    tail_is count (suc turn) (suc row) machine (omega arith) machines,
-    tail_is (suc count) turn row (suc machine) rows (omega arith),
-  )
+  -- what a loop over the machines computes
+  pub next_tail : (row machine below after time : ℕ) → row < length jobs → machine < shop.machines
+      → below ≡ heaviest_back shop jobs (row + 1) machine → after ≡ tail_from row (machine + 1)
+      → time ≡ operation shop jobs row machine → max below after + time ≡ heaviest_back shop jobs row machine
+  next_tail row machine below after time inside lt below_is after_is time_is =
+      let next : row + 1 ≡ suc row = omega arith in
+      let beside : machine + 1 ≡ suc machine = omega arith in
+      let under : below ≡ heaviest_back shop jobs (suc row) machine = rw next at below_is in
+      let right : after ≡ tail_from row (suc machine) = rw beside at after_is in
+      elim (cases_lt (suc machine) shop.machines) [
+        | inl more ↦ omega (
+          arith,
+          back_more shop jobs row machine inside (omega arith),
+          under,
+          right ∙ tail_from-in row (suc machine) more,
+          time_is,
+        )
+        | inr none ↦ omega (
+          arith,
+          back_last shop jobs row machine inside (omega arith),
+          under,
+          right ∙ tail_from-after row (suc machine) none,
+          time_is,
+        )
+      ]
 
--- ---- a table with the rows of the first `count` jobs, or of the last ones
+  -- after the last job all tails are 0
+  pub tails_none : (count : ℕ) → shop.machines ≤ count → AreTails shop jobs (length jobs) (replicate count 0)
+  tails_none count few = record {
+    every = omega (arith, length-replicate {A = ℕ});
+    values = λ machine lt. get_or-replicate count machine 0 0 (omega arith)
+        ∙ sym (back_none shop jobs (length jobs) machine (omega arith));
+  }
+
+  -- ---- no tail is too long
+
+  module _ (within : IsWithin limits shop) where
+    tail_le : (rows ons row machine : ℕ) → row + rows ≡ length jobs → machine + suc ons ≡ shop.machines
+        → heaviest_back shop jobs row machine ≤ (rows + ons) * LONGEST_TIME
+    tail_le zero ons row machine rows_are ons_are = omega (arith, back_none shop jobs row machine (omega arith))
+    tail_le (suc rows) zero row machine rows_are ons_are = omega (
+      arith,
+      back_last shop jobs row machine (omega arith) (omega arith),
+      tail_le rows zero (suc row) machine (omega arith) ons_are,
+      time_of-le shop within (get_or jobs row 0) machine,
+    )
+    tail_le (suc rows) (suc ons) row machine rows_are ons_are = omega (
+      arith,
+      back_more shop jobs row machine (omega arith) (omega arith),
+      tail_le rows (suc ons) (suc row) machine (omega arith) ons_are,
+      tail_le (suc rows) ons row (suc machine) rows_are (omega arith),
+      time_of-le shop within (get_or jobs row 0) machine,
+    )
+
+    pub tail_short : (row machine tail : ℕ) → length jobs ≤ shop.jobs → row ≤ length jobs → machine < shop.machines
+        → tail ≡ heaviest_back shop jobs row machine → tail ≤ SPAN_MAX
+    tail_short row machine tail few inside lt is =
+        let sizes = within.sizes in
+        omega (
+          arith,
+          tail_le (length jobs - row) (shop.machines - 1 - machine) row machine (omega arith) (omega arith),
+          is,
+          few,
+          sizes,
+        )
+
+    pub tail_from-short : (row machine tail : ℕ) → length jobs ≤ shop.jobs → row ≤ length jobs
+        → tail ≡ tail_from row machine → tail ≤ SPAN_MAX
+    tail_from-short row machine tail few inside is = elim (cases_lt machine shop.machines) [
+      | inl more ↦ tail_short row machine tail few inside more (is ∙ tail_from-in row machine more)
+      | inr none ↦ omega (arith, is ∙ tail_from-after row machine none)
+    ]
+
+-- ---- a row that a loop from the last machine on changes
+
+-- the numbers are the new ones from a machine on, and the old ones before it
+pub record AreFrom (old new : ℕ → ℕ) (machines machine : ℕ) (numbers : List ℕ) : Type 0 where
+  pub every : machines ≤ length numbers
+  pub done : (k : ℕ) → machine ≤ k → k < machines → get_or numbers k 0 ≡ new k
+  pub to_do : (k : ℕ) → k < machine → get_or numbers k 0 ≡ old k
+
+pub from_more : (old new : ℕ → ℕ) (machines next machine x : ℕ) (numbers : List ℕ) → next ≡ machine + 1
+    → next ≤ machines → AreFrom old new machines next numbers → x ≡ new machine
+    → AreFrom old new machines machine (set numbers machine x)
+from_more old new machines next machine x numbers next_is all are here =
+    let within : machine < length numbers = omega (arith, are.every) in
+    record {
+      every = omega (arith, length-set numbers machine x, are.every);
+      done = λ k above inside. elim (cases_eq k machine) [
+        | inl is ↦ rw is (get_or-set_same numbers machine x 0 within ∙ here)
+        | inr other ↦ get_or-set_other numbers machine k x 0 other ∙ are.done k (omega arith) inside
+      ];
+      to_do = λ k below. get_or-set_other numbers machine k x 0 (omega arith) ∙ are.to_do k (omega arith);
+    }
+
+-- ---- a table of rows
 
 -- an element of a list in which a part was written, in the part and outside
 put_in : (a n i : ℕ) (xs ys : List ℕ) → length ys ≡ n → a + n ≤ length xs → i < n
@@ -172,57 +139,28 @@ put_out : (a n i : ℕ) (xs ys : List ℕ) → length ys ≡ n → a + n ≤ len
 put_out a n i xs ys long fits (inl before) = search (rules, places)
 put_out a n i xs ys long fits (inr after) = search (rules, places)
 
-module _ (shop : FlowShop) (jobs : List ℕ) (back : Bool) where
-  abbrev pub RowsTo : ℕ → List ℕ → Type 0
-  RowsTo count table = (row turn : ℕ) → row < count → turn < shop.machines
-      → get_or table (in_turn back (length jobs) row * shop.machines + in_turn back shop.machines turn) 0
-      ≡ head (weigh shop jobs back) (suc row) turn
-
-  -- one more row is copied to its place
-  pub rows_more : (count place n : ℕ) (table row part : List ℕ) → RowsTo count table → count < length jobs
-      → IsRow shop jobs back (count + 1) row → length table ≡ length jobs * shop.machines
-      → place ≡ in_turn back (length jobs) count → n ≡ shop.machines → part ≡ take shop.machines row
-      → RowsTo (count + 1) (put_mid (place * shop.machines) n table part)
-  rows_more count place n table row part so_far inside holds all is same_n same_part r turn lt in_row =
-      let machine = in_turn back shop.machines turn in
-      let below = in_turn_below back shop.machines turn in_row in
-      let place_below : place < length jobs = rw is (in_turn_below back (length jobs) count inside) in
-      let fits : (place + 1) * shop.machines ≤ length jobs * shop.machines =
-      mul-le-mul_right shop.machines (omega (arith, place_below)) in
-      let long : length part ≡ n = rw (same_part, same_n) (length-take-le shop.machines row holds.wide) in
-      let room : place * shop.machines + n ≤ length table = omega (arith, fits, all, same_n) in
-      elim (cases_eq r count) [
-        | inl same ↦ rw (same, ← is)
-            (put_in (place * shop.machines) n machine table part long room (omega (arith, below, same_n))
-            ∙ rw same_part (get_or-take shop.machines row machine 0 below)
-            ∙ holds.each turn in_row ∙ done_is shop jobs back (count + 1) turn
-            ∙ ap (λ k. head (weigh shop jobs back) k turn) (add-one count))
-        | inr other ↦
-            let there = in_turn back (length jobs) r in
-            let apart : there ≢ place =
-            rw is (in_turn_other back (length jobs) r count (omega (arith, inside)) inside other) in
-            let outside : (there * shop.machines + machine < place * shop.machines)
-            ⊎ (place * shop.machines + n ≤ there * shop.machines + machine) = elim (cases_lt there place) [
-              | inl before ↦
-                  let ends : (there + 1) * shop.machines ≤ place * shop.machines =
-                  mul-le-mul_right shop.machines (omega (arith, before)) in inl (omega (arith, ends, below))
-              | inr after ↦
-                  let starts : (place + 1) * shop.machines ≤ there * shop.machines =
-                  mul-le-mul_right shop.machines (omega (arith, after, apart)) in inr (omega (arith, starts, same_n))
-            ] in
-            put_out (place * shop.machines) n (there * shop.machines + machine) table part long room outside
-            ∙ so_far r turn (omega (arith, lt, other)) in_row
-      ]
-
-pub rows_all : (shop : FlowShop) (jobs : List ℕ) (back : Bool) (count : ℕ) (table : List ℕ)
-    → RowsTo shop jobs back count table
-    → length jobs ≤ count → AreRows shop jobs back table
-rows_all shop jobs false count table so_far all = λ row machine inside lt.
-    so_far row machine (omega arith) lt ∙ sym (heaviest_is (operation shop jobs) row machine)
-rows_all shop jobs true count table so_far all = λ row machine inside lt.
-    let turn : ℕ = shop.machines - 1 - machine in
-    let r : ℕ = length jobs - 1 - row in
-    let same_row = in_turn_twice true (length jobs) row inside in
-    let same_machine = in_turn_twice true shop.machines machine lt in
-    rw (same_row, same_machine) at (so_far r turn (omega arith) (omega arith))
-    ∙ sym (tail_is shop jobs (suc r) turn row machine (omega arith) (omega arith))
+-- a row is copied to its place
+pub row_put : (value : ℕ → ℕ → ℕ) (count machines place n : ℕ) (table row part : List ℕ) → place < count
+    → length table ≡ count * machines → AreOf (value place) machines row → n ≡ machines → part ≡ take machines row
+    → (r machine : ℕ) → machine < machines → (r ≢ place → get_or table (r * machines + machine) 0 ≡ value r machine)
+    → get_or (put_mid (place * machines) n table part) (r * machines + machine) 0 ≡ value r machine
+row_put value count machines place n table row part inside all are same_n same_part r machine in_row others =
+    let fits : (place + 1) * machines ≤ count * machines = mul-le-mul_right machines (omega arith) in
+    let long : length part ≡ n = rw (same_part, same_n) (length-take-le machines row are.every) in
+    let room : place * machines + n ≤ length table = omega (arith, fits, all, same_n) in
+    elim (cases_eq r place) [
+      | inl same ↦ rw same
+          (put_in (place * machines) n machine table part long room (omega (arith, same_n))
+          ∙ rw same_part (get_or-take machines row machine 0 in_row) ∙ are.values machine in_row)
+      | inr apart ↦
+          let outside : (r * machines + machine < place * machines) ⊎ (place * machines + n ≤ r * machines + machine) =
+          elim (cases_lt r place) [
+            | inl before ↦
+                let ends : (r + 1) * machines ≤ place * machines = mul-le-mul_right machines (omega arith) in
+                inl (omega (arith, ends))
+            | inr after ↦
+                let starts : (place + 1) * machines ≤ r * machines =
+                mul-le-mul_right machines (omega (arith, apart)) in inr (omega (arith, starts, same_n))
+          ] in
+          put_out (place * machines) n (r * machines + machine) table part long room outside ∙ others apart
+    ]

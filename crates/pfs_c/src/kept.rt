@@ -22,8 +22,8 @@ use crate::given::{copy_sequence, validate, validate_insertion, validate_jobs};
 use crate::iterating::IterateOptions;
 use crate::many::{fill_makespans, validate_many};
 use crate::numbers::CallFault;
-use crate::rows::span_of;
 use crate::searching::RoundsOptions;
+use pfs_base::heads::span_of;
 use pfs_base::{Bench, Instance, MOST_JOBS, MOST_PASSES, MOST_ROUNDS};
 use pfs_batch::Batch;
 use pfs_insert::Placed;
@@ -43,9 +43,9 @@ pub(crate) struct Searched {
 #[derive(Drop)]
 pub(crate) struct Kept {
     instance: Instance,
-    // Whether the makespan that the search keeps is that of its order.
-    is_span_known: bool,
     iterated: Iterated,
+    // Whether the makespan that its search keeps is that of its order.
+    is_span_known: bool,
     // None if a time is above 65,535.
     batch: Option<Batch>,
 }
@@ -63,9 +63,9 @@ impl Model for Kept {
 
     ghost invariant = { λ a. record {
       within : IsWithin limits a.instance.shop;
+      iterated : IsIteratedFor a.instance.shop a.iterated;
       span : IsTrue a.is_span_known
           → a.iterated.work.search.kept.span ≡ makespan a.instance.shop a.iterated.work.search.kept.order;
-      iterated : IsIteratedFor a.instance.shop a.iterated;
       batch : IfSome a.batch (λ batch. batch ≡ a.instance.shop);
     } };
 }
@@ -84,8 +84,8 @@ impl Kept {
         };
         Ok(Kept {
             instance,
-            is_span_known: false,
             iterated,
+            is_span_known: false,
             batch,
         })
     }
@@ -112,16 +112,13 @@ impl Kept {
         ensures found { IsNeh self.old order.new result.span result.cells }
         ensures shop { self.new ≡ self.old }
     {
-        self.iterated.work.search.cells = 0;
-        let bench = self
-            .iterated
-            .work
-            .search
-            .neh(alloc, self.instance.metered());
+        let search = &mut self.iterated.work.search;
+        search.cells = 0;
+        let bench = search.neh(alloc, self.instance.metered());
         self.is_span_known = true;
-        copy_sequence(self.iterated.work.search.kept.order.seq(), order);
+        copy_sequence(search.kept.order.seq(), order);
         Searched {
-            span: bench.reveal(self.iterated.work.search.kept.span),
+            span: bench.reveal(search.kept.span),
             cells: bench.cells(),
         }
     }
@@ -154,21 +151,15 @@ impl Kept {
             seed: options.seed,
         };
         let start_span = self.span_of(order);
+        let search = &mut self.iterated.work.search;
         // The cells of the makespan that the rounds begin with are not theirs, so another bench counts them.
-        self.iterated
-            .work
-            .search
-            .start(&mut self.instance.metered(), order, start_span);
-        self.iterated.work.search.cells = 0;
-        let bench = self
-            .iterated
-            .work
-            .search
-            .rounds(alloc, self.instance.metered(), options.first, rounds);
+        search.start(&mut self.instance.metered(), order, start_span);
+        search.cells = 0;
+        let bench = search.rounds(alloc, self.instance.metered(), options.first, rounds);
         self.is_span_known = true;
-        copy_sequence(self.iterated.work.search.kept.order.seq(), order);
+        copy_sequence(search.kept.order.seq(), order);
         Ok(Searched {
-            span: bench.reveal(self.iterated.work.search.kept.span),
+            span: bench.reveal(search.kept.span),
             cells: bench.cells(),
         })
     }
@@ -203,14 +194,14 @@ impl Kept {
     }
 
     // The makespan of a sequence, which is known if the search has just found this sequence.
+    #[tactic(auto, using(crate::proofs::Jobs::few_jobs))]
     fn span_of(&self, sequence: &[u32]) -> u64
         requires { IsSequence self.now.jobs sequence.now }
         ensures { result ≡ makespan self.now sequence.now }
     {
-        if self.is_span_known && self.iterated.work.search.kept.order.seq().as_slice() == sequence {
-            self.instance
-                .metered()
-                .reveal(self.iterated.work.search.kept.span)
+        let kept = &self.iterated.work.search.kept;
+        if self.is_span_known && kept.order.seq().as_slice() == sequence {
+            self.instance.metered().reveal(kept.span)
         } else {
             span_of(&self.instance, sequence)
         }
@@ -224,11 +215,8 @@ impl Kept {
     {
         validate_insertion(self.instance.jobs(), sequence, job)?;
         let mut bench = self.instance.metered();
-        let best = self
-            .iterated
-            .work
-            .search
-            .best(&mut bench, sequence, job as usize, &mut []);
+        let search = &mut self.iterated.work.search;
+        let best = search.best(&mut bench, sequence, job as usize, &mut []);
         Ok(Placed {
             place: best.place,
             span: bench.reveal(best.span),
@@ -291,11 +279,8 @@ impl Kept {
         validate(makespans.len() == sequence.len() + 1, CallFault::Length)?;
         validate_insertion(self.instance.jobs(), sequence, job)?;
         let mut bench = self.instance.metered();
-        let _best = self
-            .iterated
-            .work
-            .search
-            .best(&mut bench, sequence, job as usize, makespans);
+        let search = &mut self.iterated.work.search;
+        let _best = search.best(&mut bench, sequence, job as usize, makespans);
         Ok(())
     }
 

@@ -10,7 +10,7 @@ ghost use Rattle.pfs_c.specs.Private.Outcomes.{Validates};
 
 use crate::given::{validate_jobs, validate_product};
 use crate::numbers::CallFault;
-use crate::rows::span_of;
+use pfs_base::heads::span_of;
 use pfs_base::{Instance, MOST_JOBS};
 use pfs_batch::{Batch, WIDTH};
 
@@ -93,6 +93,7 @@ fn spans_at(
 
 // The makespan of a sequence, which is `span` unless that is 65,535.
 #[inline(always)]
+#[tactic(auto, using(crate::proofs::Jobs::few_jobs))]
 fn whole_span(instance: &Instance, span: u16, sequences: &[u32], long: usize, index: usize) -> u64
     requires room { (index + 1) * long ≤ length sequences.now }
     requires sequence { IsSequence instance.now.shop.jobs (sequence_at long sequences.now index) }

@@ -1,7 +1,7 @@
 //! Makespans, bounds, insertions, time tables, and heads and tails, for C.
 ghost use Rattle.std.specs.Prelude.{◌≡◌, ◌≢◌, ℕ, ◌+◌, ◌*◌, ◌<◌, ◌≤◌, [], ◌∷◌, length, IfOk, IfErr, IfSome};
 ghost use Rattle.std.specs.declared.option.Option.TheVariants.{None};
-ghost use Rattle.pfs_audit.specs.Bound.{bound_of};
+ghost use Rattle.pfs_audit.specs.Bound.{bound_of, IsLowerBound};
 ghost use Rattle.pfs_audit.specs.Schedule.{IsLeastSchedule};
 ghost use Rattle.pfs_base.specs.Paths.{makespan};
 ghost use Rattle.pfs_insert.specs.Inserter.{IsBestPlace};
@@ -16,13 +16,16 @@ ghost use Rattle.pfs_c.specs.Private.Outcomes.{Rejects, Validates};
 use crate::given::{order_of, validate, validate_jobs, validate_product};
 use crate::handle::Prepared;
 use crate::numbers::{CallFault, PFS_OK, number_and_place, number_of};
-use crate::rows::{fill_rows, span_of};
+use crate::rows::{fill_heads, fill_tails};
 use pfs_audit::{TimeTable, bound, table};
 use pfs_base::Instance;
+use pfs_base::heads::span_of;
+use pfs_exact::bound_by_pairs;
 use std::alloc::Global;
 
 /// Computes the makespan of a sequence of distinct jobs, which need not be all jobs. That of no jobs is 0.
 #[unsafe(no_mangle)]
+#[tactic(auto, using(crate::proofs::Jobs::few_jobs))]
 pub extern "C" fn pfs_makespan(
     alloc: Global,
     instance: &mut Prepared,
@@ -60,6 +63,30 @@ pub extern "C" fn pfs_bound(alloc: Global, instance: &mut Prepared, least: &mut 
     *least = bound(kept.instance());
     instance.put(kept);
     PFS_OK
+}
+
+/// Computes a lower bound of the makespan of every order, by pairs of machines (Johnson 1954; Lageweg, Lenstra and
+/// Rinnooy Kan 1978). It is at least that of `pfs_bound`.
+#[unsafe(no_mangle)]
+pub extern "C" fn pfs_pairs_bound(alloc: Global, instance: &mut Prepared, least: &mut u64) -> i32
+    ensures number { Returns result (on_shop instance.old.shop (λ _. None)) }
+    ensures low { result ≡ PFS_OK → IfSome instance.old.shop (λ shop. IsLowerBound shop least.new) }
+    ensures raised { result ≡ PFS_OK → IfSome instance.old.shop (λ shop. bound_of shop ≤ least.new) }
+    ensures shop { instance.new.shop ≡ instance.old.shop }
+    ensures kept { result ≢ PFS_OK → least.new ≡ least.old }
+{
+    let Some(kept) = instance.take(alloc) else {
+        return CallFault::NotPrepared.number();
+    };
+    let found = bound_by_pairs(alloc, kept.instance());
+    instance.put(kept);
+    match found {
+        Ok(number) => {
+            *least = number;
+            PFS_OK
+        }
+        Err(_) => CallFault::Memory.number(),
+    }
 }
 
 /// Computes the makespans of many sequences, which are stored one after the other. Each has `len` distinct jobs, which
@@ -242,7 +269,7 @@ fn heads_tails_in(
     validate_product(heads.len(), sequence.len(), machines)?;
     validate_product(tails.len(), sequence.len(), machines)?;
     validate_jobs(instance.jobs(), sequence)?;
-    fill_rows(instance, sequence, heads, false);
-    fill_rows(instance, sequence, tails, true);
+    fill_heads(instance, sequence, heads);
+    fill_tails(instance, sequence, tails);
     Ok(())
 }

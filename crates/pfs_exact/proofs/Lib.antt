@@ -1,14 +1,15 @@
-pub mod Arrays
+pub mod Published
+mod Arrays
 mod Bounds
 mod Cells
 mod Covering
 mod Eight
 mod Gathered
-pub mod GrownEnds
+mod GrownEnds
 pub mod Heads
 mod JobsByLag
 mod LaneBounds
-pub mod MachineBounds
+mod MachineBounds
 mod RootBounds
 mod SearchedChildren
 mod Searching

@@ -1,8 +1,8 @@
 //! What is known of the orders of a node, machine by machine.
 ghost use Rattle.std.specs.Prelude.{◌≡◌, ℕ, ◌+◌, ◌-◌, ◌<◌, ◌≤◌, List, [], ◌∷◌, ◌++◌, length, slice_index};
 ghost use Rattle.pfs_base.specs.FlowShop.{time_of};
-ghost use Rattle.pfs_exact.specs.Private.Nodes.{AreEnds, AreLeast, AreLeft, AreOpen, AreRests, AreStarts};
-ghost use Rattle.pfs_exact.specs.Private.Nodes.{IsNode, IsOpen, put_of};
+ghost use Rattle.pfs_exact.specs.Private.Nodes.{AreEnds, AreLeast, AreLeft, AreOpen, IsNode, IsOpen, put_of};
+ghost use Rattle.pfs_exact.specs.Times.{AreRests, AreStarts};
 ghost use Rattle.pfs_exact.specs.declared.ends.Ends.{Ends};
 
 use crate::ends::Ends;
@@ -68,7 +68,7 @@ pub(crate) fn copy(from: &[u64], to: &mut [u64], many: usize)
     }
 }
 
-/// The starts after one more of the first jobs.
+/// The starts after one more of the first jobs. They are bounds, so a sum that does not fit is a bound too.
 pub fn grow_front(instance: &Instance, starts: &[u64], job: usize, next: &mut [u64])
     requires job { job < instance.now.shop.jobs }
     requires starts { instance.now.shop.machines ≤ length starts.now }

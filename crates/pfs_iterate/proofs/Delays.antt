@@ -13,7 +13,7 @@ use Rattle.pfs_base.specs.Paths.{operation}
 use Rattle.pfs_base.proofs.Published.HeadRows.{head_of-le, head_of-same, head_of-step}
 use Rattle.pfs_audit.proofs.Published.Ranges.{sum_by-below-more, sum_by-below-suc}
 use Rattle.pfs_iterate.specs.Laws.{DelayLaw}
-use Rattle.pfs_iterate.specs.Iterated.{count_to, ends, total_delay}
+use Rattle.pfs_iterate.specs.Iterated.{count_to, total_delay}
 
 module _ (shop : FlowShop) (jobs : List ℕ) (job place : ℕ) (within : place ≤ length jobs) where
   abbrev with_job : List ℕ

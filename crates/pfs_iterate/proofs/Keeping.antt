@@ -1,5 +1,5 @@
 -- What steps keep, one after another.
-use Rattle.std.proofs.Common.{◌≡◌, ◌∙◌, refl, ℕ, List, sym, arith}
+use Rattle.std.proofs.Common.{◌∙◌, refl, ℕ, List, sym, arith}
 use Rattle.pfs_base.specs.FlowShop.{FlowShop}
 use Rattle.pfs_iterate.specs.Private.Keeping.{IsLater}
 use Rattle.pfs_iterate.specs.Private.Memory.{IsWorkAfter, IsWorkFor}

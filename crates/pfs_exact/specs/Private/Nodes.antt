@@ -1,13 +1,13 @@
 -- Orders that begin and end with some jobs, how short they can be, and what a node of the search keeps of them. Jobs and
 -- machines count from 0.
-use Rattle.std.specs.Prelude.{◌≡◌, ℕ, suc, Bool, true, false, ◌+◌, ◌-◌, ◌<◌, ◌≤◌, List, [], ◌∷◌, ◌++◌, length}
+use Rattle.std.specs.Prelude.{◌≡◌, ℕ, Bool, true, false, ◌+◌, ◌-◌, ◌<◌, ◌≤◌, List, [], ◌∷◌, ◌++◌, length}
 use Rattle.std.specs.Prelude.{slice_index, slice_index_or, remove, sum_by, Contains, min, ◌⊎◌, All}
 use Rattle.pfs_base.specs.FlowShop.{FlowShop, time_of}
-use Rattle.pfs_base.specs.Heads.{head_of}
 use Rattle.pfs_base.specs.Paths.{makespan}
 use Rattle.pfs_order.specs.Sequence.{IsSequence}
 use Rattle.pfs_audit.specs.Bound.{time_on, IsLowerBound}
 pub use Rattle.pfs_exact.specs.Parts.{IsFull, NoneShorter}
+pub use Rattle.pfs_exact.specs.Times.{AreRests, AreStarts, Each, IsRest, IsStart}
 use Rattle.pfs_exact.specs.Parts.{IsPart, IsInSome}
 use Rattle.pfs_exact.specs.Private.Blocks.{IsTable}
 use Rattle.pfs_exact.specs.declared.branch.Work.{Work}
@@ -25,17 +25,6 @@ IsOpen front back job = (Contains front job → ⊥) × (Contains back job → �
 
 -- ---- bounds on a machine
 
--- the job after the first ones starts on the machine no sooner than at this time
-abbrev pub IsStart : FlowShop → List ℕ → List ℕ → ℕ → ℕ → Type 0
-IsStart shop front back machine time = (job : ℕ) (more : List ℕ) → IsFull shop front (job ∷ more) back
-    → time + time_of shop job machine ≤ head_of shop (front ++ (job ∷ (more ++ back))) (suc (length front)) machine
-
--- from the time when the machine is done with the jobs between, there is at least this time to the end
-abbrev pub IsRest : FlowShop → List ℕ → List ℕ → ℕ → ℕ → Type 0
-IsRest shop front back machine time = (middle : List ℕ) → IsFull shop front middle back
-    → head_of shop (front ++ (middle ++ back)) (length front + length middle) machine + time
-    ≤ makespan shop (front ++ (middle ++ back))
-
 -- the jobs between take at least this time on the machine
 abbrev pub IsLeft : FlowShop → List ℕ → List ℕ → ℕ → ℕ → Type 0
 IsLeft shop front back machine time = (middle : List ℕ) → IsFull shop front middle back → time ≤ times_on shop machine middle
@@ -44,17 +33,6 @@ IsLeft shop front back machine time = (middle : List ℕ) → IsFull shop front 
 pub record IsLeast (shop : FlowShop) (front back : List ℕ) (machine time : ℕ) : Type 0 where
   pub one : (job : ℕ) → IsFull shop front (job ∷ []) back → time ≡ 0
   pub every : (job : ℕ) → job < shop.jobs → IsOpen front back job → time ≤ time_of shop job machine
-
--- the first numbers of a list, one for each machine
-abbrev pub Each : (ℕ → ℕ → Type 0) → ℕ → List ℕ → Type 0
-Each Is machines times = (machine : ℕ) → machine < machines → Is machine (slice_index times machine)
-
-abbrev pub AreStarts : FlowShop → List ℕ → List ℕ → List ℕ → Type 0
-AreStarts shop front back starts = Each (IsStart shop front back) shop.machines starts
-
--- from the last machine on
-abbrev pub AreRests : FlowShop → List ℕ → List ℕ → List ℕ → Type 0
-AreRests shop front back rests = Each (λ turn. IsRest shop front back (shop.machines - 1 - turn)) shop.machines rests
 
 abbrev pub AreLeft : FlowShop → List ℕ → List ℕ → List ℕ → Type 0
 AreLeft shop front back left = Each (IsLeft shop front back) shop.machines left

@@ -219,7 +219,7 @@ def with_first(rows: list[Row | Unclear | Means], first: int | None) -> list[Row
 def dummy(row: Row) -> str:
     """Return what an order of jobs from 1 on takes without a 0 at its ends, or an empty text."""
     numbers = row.numbers[row.numbers[0] == 0:len(row.numbers) - (row.numbers[-1] == 0)]
-    if len(numbers) in (len(row.numbers), 0) or len(numbers) != row.shop.jobs or first_number(numbers) != 1:
+    if row.first != 1 or len(numbers) == len(row.numbers) or sorted(numbers) != [*range(1, row.shop.jobs + 1)]:
         return ""
     check = row.shop.check([number - 1 for number in numbers], row.stated)
     ends = " and ".join(["the beginning"] * (row.numbers[0] == 0) + ["the end"] * (row.numbers[-1] == 0))

@@ -81,9 +81,9 @@ def places_in(head: Sequence[str]) -> list[int]:
             run = [at + turn for turn, _ in enumerate(takewhile(bool, alike))]
             if len(run) > 1:
                 return run
-        blanks = [*takewhile(lambda place: not head[place].strip(), range(at + 1, len(head)))]
-        if blanks and meaning(name)[0] == "order":
-            return [at, *blanks]
+        if meaning(name)[0] == "order":
+            blanks = [*takewhile(lambda place: not head[place].strip(), range(at + 1, len(head)))]
+            return [at, *blanks] if blanks else []
     return []
 
 

@@ -65,6 +65,7 @@ PROTOTYPES: Final[dict[str, list[type[Any]]]] = {
     "pfs_makespan": [c_void_p, *LIST, c_void_p],
     "pfs_makespans": [c_void_p, *LIST, c_size_t, *LIST],
     "pfs_bound": [c_void_p, c_void_p],
+    "pfs_pairs_bound": [c_void_p, c_void_p],
     "pfs_table": [c_void_p, *LIST, *LIST, *LIST],
     "pfs_neh": [c_void_p, *LIST, c_void_p, c_void_p],
     "pfs_rounds": [c_void_p, c_void_p, *LIST, c_void_p, c_void_p],

@@ -17,7 +17,7 @@ import signal
 import subprocess
 import sys
 from collections.abc import Container, Iterator
-from typing import Required, TypedDict
+from typing import TypedDict
 
 from pfs.base.cells import FORMULA, text_cell
 from pfs.experiments import ExperimentError, Options, csv_text, folders, one, plain
@@ -268,12 +268,16 @@ def write_csv(experiment: Experiment, csv_path: str) -> tuple[int, int]:
     return failed, left
 
 
-class Proof(TypedDict, total=False):
+class Proved(TypedDict):
     """What `prove` has proved of an instance: a bound, the makespan of the shortest order that is known, and its file
-    if no run has found it. Then where the search began, for how long it took, and what it was made with."""
-    bound: Required[int]
-    makespan: Required[int]
-    order: Required[str]
+    if no run has found it."""
+    bound: int
+    makespan: int
+    order: str
+
+
+class Proof(Proved, total=False):
+    """With where the search began, for how long it took, and what it was made with."""
     start: str
     seed: str
     seconds: float

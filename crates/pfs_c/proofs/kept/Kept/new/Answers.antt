@@ -4,7 +4,7 @@ use Rattle.pfs_c.proofs.kept.Kept.new.Goals as goal
 pub invariant_of-result : goal.invariant_of-result
 invariant_of-result c = record {
   within = search rules;
-  span = λ known. absurd cc;
   iterated = search rules;
+  span = λ known. absurd cc;
   batch = search rules;
 }

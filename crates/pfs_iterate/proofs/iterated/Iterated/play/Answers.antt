@@ -1,4 +1,4 @@
-use Rattle.std.proofs.Common.{◌≡◌, ◌+◌, ◌-◌, ◌≤◌, ◌⊎◌, inl, inr, length, take as front, ap, sym, ◌∙◌, arith}
+use Rattle.std.proofs.Common.{◌≡◌, ◌+◌, ◌-◌, ◌⊎◌, inl, inr, length, take as front, ap, sym, ◌∙◌, arith}
 use Rattle.pfs_search.specs.Solution.{words_after}
 use Rattle.pfs_search.proofs.Published.Words.{later}
 use Rattle.pfs_iterate.specs.Iterated.{State, after_round, after_rounds, words_of_round}

@@ -1,0 +1,2 @@
+-- Lemmas that the proofs of dependent crates may cite.
+pub mod Times
