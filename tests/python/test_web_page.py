@@ -530,3 +530,11 @@ def test_the_page_has_the_language_of_the_browser(page: Page) -> None:
         page.wait(lambda: page.one(f"html[lang={due}] #language").get_property("value") == due)
     Select(page.one("#language")).select_by_value("de")
     page.wait(lambda: page.text("h1") == "Flie\u00dffertigung planen")
+
+
+def test_an_address_without_its_token_says_so(page: Page) -> None:
+    """As a bookmark is, before a table is dropped."""
+    page.open()
+    page.browser.execute_script("sessionStorage.clear()")
+    page.browser.get(f"http://127.0.0.1:{page.server.port}/")
+    page.wait(lambda: page.text("#message") == "The token is missing or wrong: ask for the whole address of the page.")

@@ -21,8 +21,8 @@ export const shopOf = state => isRead(state) && state.read.shop || null;
 // The plan of the table that was read.
 export const planOf = state => shopOf(state) && state.doc.plan && state.doc.plan.digest === state.read.digest
   ? state.doc.plan : null;
-const keptHere = ({doc, read}) => doc.kept.filter(each => each.digest === read.digest);
-const aboutPlan = ({doc}) => [doc.plan.digest, doc.plan.order, doc.calendar, doc.title, doc.kept];
+export const keptHere = ({doc, read}) => doc.kept.filter(each => each.digest === read.digest);
+export const aboutPlan = ({doc}) => [doc.plan.digest, doc.plan.order, doc.calendar, doc.title, doc.kept];
 export const isSame = (some, others) => Boolean(some && others) && some.length === others.length
   && some.every((each, at) => each === others[at]);
 // What was said of a plan of this table, also before its last move; and whether it is of the plan as it is.
@@ -135,7 +135,6 @@ export function restPlanned(state, of, found) {
     calendar: {...doc.calendar, begin}, now: "", down: {}});
   return {...next, read: {...found, typed}};
 }
-export const ofPlan = state => aboutPlan(state);
 
 // What the server said
 

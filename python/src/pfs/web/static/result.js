@@ -1,7 +1,7 @@
 // Draws the plan, and changes it.
 import {ask, change, doing, settled, state, trouble} from "./desk.js";
-import {changed, held, isRead, isShown, moved, movedFirst, ofPlan, planForgotten, planKept, planOf, planShown, planned,
-        restPlanned, shopOf, toldOf} from "./document.js";
+import {aboutPlan, changed, held, isRead, isShown, keptHere, moved, movedFirst, planForgotten, planKept, planOf,
+        planShown, planned, restPlanned, shopOf, toldOf} from "./document.js";
 import {tr} from "./german.js";
 import {byId, control, listIn, made, rowOf} from "./lists.js";
 
@@ -116,7 +116,7 @@ byId("now").onchange = event => change(now => changed(now, {now: event.target.va
 byId("rest").onclick = doing(async () => {
   await settled();
   if (!isShown(state)) return;
-  const of = ofPlan(state), {machines} = shopOf(state);
+  const of = aboutPlan(state), {machines} = shopOf(state);
   const down = Object.fromEntries(Object.entries(state.doc.down)
     .filter(([name, until]) => until && machines.includes(name)));
   const found = await ask("rest", planned(state, {at: nowOf(state), down}));
@@ -128,7 +128,7 @@ byId("keep").onclick = doing(async () => {
   await settled();
   change(now => planKept(now, now.doc.title || tr("Plan {number}", {number: now.doc.kept.length + 1})));
 });
-const here = () => state.doc.kept.filter(each => each.digest === state.read.digest);
+const here = () => keptHere(state);
 const moves = listIn(byId("moves"), at => {
   const [job, , end] = told.jobs[at], row = rowOf([job, end]);
   here().forEach(({ends}, place) => made("td", Object.hasOwn(ends, job) ? ends[job] : "", row,
