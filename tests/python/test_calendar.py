@@ -1,4 +1,5 @@
 """Dates and times of day for the times of a schedule: by hand, against a walk minute by minute, in files and charts."""
+import copy
 import datetime
 import itertools
 import pathlib
@@ -28,6 +29,17 @@ BY_HAND: dict[str, tuple[str, dict[str, Any], int, int, str, str]] = {
                                        "2026-12-04 06:00", "2026-12-04 06:01"),
     "closed over the new year": ("2026-12-23T06:00", EARLY | {"closed": ["2026-12-24..2027-01-01", "2027-01-05"]}, 470,
                                  970, "2026-12-23 13:50", "2027-01-06 06:10"),
+    "late from Wednesday on": ("2026-11-30T06:00", {"shifts": ["06:00-14:00", "2026-12-02..:06:00-18:30"]}, 959, 1711,
+                               "2026-12-01 13:59", "2026-12-03 06:01"),
+    "from a date on twice": ("2026-12-02T06:00", {"shifts": [
+        "2026-12-03..:08:00-10:00", "06:00-14:00", "2026-12-02 .. :07:00-08:00"]}, 0, 61, "2026-12-02 07:00",
+        "2026-12-03 08:01"),
+    "Fridays from a date on": ("2026-12-04T06:00", {"days": "mon-fri", "shifts": [
+        "06:00-14:00", "fri:06:00-07:00", "2026-12-11..FRI:06:00-08:00", "2026-12-01..:06:00-10:00"]}, 60,
+        60 + 4 * 240 + 240 + 120, "2026-12-07 06:00", "2026-12-14 10:00"),
+    "a date after one from which on": ("2026-12-03T06:00", {"shifts": [
+        "2026-12-02..:06:00-18:30", "2026-12-03:06:00-12:00"], "closed": "2026-12-04"}, 360, 361, "2026-12-05 06:00",
+        "2026-12-05 06:01"),
     "no time at the begin": ("2026-11-30T05:00", EARLY, 0, 0, "2026-11-30 06:00", "2026-11-30 06:00"),
     "no time at the end of a shift": ("2026-11-30T06:00", EARLY, 480, 480, "2026-11-30 14:00", "2026-11-30 14:00"),
 }
@@ -64,16 +76,17 @@ def test_seconds_have_as_many_decimals_as_they_need(decimals: int) -> None:
 
 class Drawn(NamedTuple):
     """A calendar: its shifts with their lengths, which don't overlap, a day of the week with the last of them alone,
-    and a date with the first one alone."""
+    and a date with the first one alone. From the date `later` on, other days have the first one alone, too."""
     begin: datetime.datetime
     shifts: list[tuple[int, int]]
     days: list[int]
     closed: list[datetime.date]
     short: int
     extra: datetime.date
+    later: datetime.date
 
     def starting(self, date: datetime.date) -> list[tuple[int, int]]:
-        own = self.shifts if date.weekday() in self.days else []
+        own = self.shifts[:1 if date >= self.later else None] if date.weekday() in self.days else []
         own = [] if date in self.closed else self.shifts[-1:] if date.weekday() == self.short else own
         return self.shifts[:1] if date == self.extra else own
 
@@ -100,13 +113,13 @@ def calendars(draw: st.DrawFn) -> Drawn:
     closed = [begin.date() + DAY * day for day in draw(st.sets(st.integers(-3, 12)))]
     days = sorted(draw(st.sets(st.integers(0, 6), min_size=1)))
     return Drawn(begin.replace(second=0, microsecond=0), shifts, days, closed, draw(st.integers(0, 6)),
-                 begin.date() + DAY * draw(st.integers(-2, 14)))
+                 *(begin.date() + DAY * draw(st.integers(-2, 14)) for _ in range(2)))
 
 
 def calendar_of(drawn: Drawn) -> pfs.Calendar:
     words = ["-".join(f"{minute % 1440 // 60:02}:{minute % 60:02}" for minute in (start, start + length))
              for start, length in drawn.shifts]
-    words += [f"{drawn.extra}:{words[0]}", f"{DAYS[drawn.short]}:{words[-1]}"]
+    words += [f"{drawn.extra}:{words[0]}", f"{DAYS[drawn.short]}:{words[-1]}", f"{drawn.later}..:{words[0]}"]
     return pfs.Calendar(drawn.begin, words, [DAYS[day] for day in drawn.days], map(str, drawn.closed))
 
 
@@ -129,6 +142,25 @@ def test_calendars_are_those_of_a_walk(drawn: Drawn, count: int) -> None:
     assert set(gaps) <= {time for time, _ in breaks}, "each shift that begins after a break is marked"
     for end in gaps:
         assert clock.breaks(end) == [each for each in breaks if each[0] < end], "no shift from the end on is marked"
+
+
+@given(calendars(), st.integers(0, 20), st.sampled_from(["{}..:00:00-01:00", "{}..sun:00:00-24:00", "{}:07:00-08:00"]))
+def test_what_is_said_of_later_changes_nothing_before(drawn: Drawn, days: int, words: str) -> None:
+    """No minute before the date, in which a night shift of the day before may still go on."""
+    date, plain = max(drawn.begin.date(), drawn.begin.date() + DAY * days), calendar_of(drawn)
+    rule = pfs.schedules.calendar.shifts_of(words.format(date))
+    other = copy.copy(plain)
+    own, open_days, closed = plain._rule
+    other._rule = {**own, **rule}, open_days, closed
+    try:
+        other._find_spans()
+    except ValueError as error:
+        assert "overlap" in str(error)
+        return
+    until = (date - datetime.date(1970, 1, 5)).days * 86_400 * 10**6
+    found = [[(start, min(end, until)) for start, end in itertools.islice(each._open(), 400) if start < until]
+             for each in (plain, other)]
+    assert found[0] == found[1]
 
 
 @given(calendars(), st.lists(st.integers(0, 10**6), min_size=2, max_size=20), st.sampled_from(["s", "min", "h"]))
@@ -173,7 +205,11 @@ def test_dates_increase_and_lead_back_to_the_times(drawn: Drawn, times: list[int
     ({"begin": "2026-12-01T06:00", "closed": "2026-12-01", "shifts": ["tue:22:00-06:00", "wed:05:00-07:00"]},
      ValueError, "shifts overlap on Wed 2026-12-09 at 05:00"),
     ({"shifts": "fry:06:00-12:00"}, ValueError, "'fry' is not a day of the week"),
-    ({"shifts": "2026-11-31:06:00-12:00"}, ValueError, "'2026-11-31' is not a date such as 2026-12-24"),
+    *(({"shifts": f"2026-11-31{since}:06:00-12:00"}, ValueError, "'2026-11-31' is not a date such as 2026-12-24")
+      for since in ("", "..", "..fri")),
+    ({"shifts": "2026-12-02..fry:06:00-12:00"}, ValueError, "'fry' is not a day of the week"),
+    ({"shifts": "2036-12-08..:06:00-12:00"}, ValueError, "2036-12-08 is more than ten years after the begin"),
+    ({"shifts": ["2026-12-02..:06:00-14:00", "2026-12-02..:08:00-12:00"]}, ValueError, "overlap on Wed 2026-12-02"),
     ({"closed": "24.12.2026"}, ValueError, "'24.12.2026' is not a date such as 2026-12-24, or dates such as "),
     ({"closed": "20261224"}, ValueError, "is not a date"), ({"closed": ""}, ValueError, "'' is not a date"),
     ({"closed": "2026-12-24..2026-12-23"}, ValueError, "is not a first and a last date, as 2026-12-24..2027-01-01 is"),

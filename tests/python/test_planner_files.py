@@ -35,7 +35,7 @@ def test_options_in_a_file(tmp_path: pathlib.Path) -> None:
 def test_machines_with_a_comma_in_their_names(tmp_path: pathlib.Path) -> None:
     book_of(tmp_path / "times.xlsx", ("job", "saw, left", "note", "drill"), ("table", 3, "x", 1))
     status, _, got = ended(["plan", "times.xlsx", "--machines", 'drill, "saw, left"'], tmp_path)
-    assert (status, got) == (0, "")
+    assert (status, got) == (0, "times.xlsx: columns that are left out: note\n")
 
 
 @pytest.mark.parametrize(("cell", "hint"), [

@@ -38,13 +38,15 @@ def test_the_rest_ends_when_the_plan_does(seed: int) -> None:
         at = chance.randint(0, schedule.makespan + 1)
         down = {machine: at + chance.randint(0, 12) for machine in range(machines) if chance.random() < .3}
         down = down if number % 2 else {}
-        if (ends[:, -1] <= at).all():
+        is_done = [ends[job, -1] <= at or any(times[job]) and all(
+            end <= at for time, end in zip(times[job], ends[job]) if time) for job in range(jobs)]
+        if all(is_done):
             with pytest.raises(ValueError, match="all jobs are finished by then"):
                 schedule.rest(at, down)
             continue
         left, held, done = schedule.rest(at, down)
         names = [left.job_name(job) for job in range(left.jobs)]
-        assert done == tuple(str(job) for job in range(jobs) if ends[job, -1] <= at)
+        assert done == tuple(str(job) for job in range(jobs) if is_done[job])
         # Machines that no job needs any more may stay down.
         needed = {machine: until for machine, until in down.items()
                   if ((ends[:, machine] > at) & (times[:, machine] > 0)).any()}

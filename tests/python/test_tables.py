@@ -293,10 +293,9 @@ def test_all_faults_of_a_table_are_reported_at_once(tmp_path: pathlib.Path) -> N
         pfs.read_csv(tmp_path / "file")
     faults = [fault.value, *fault.value.others]
     assert [(each.line, each.column, each.head) for each in faults] == [
-        (2, 0, ""), (2, 3, ""), (3, 2, "Kunde"), (3, 7, "Termin"), (4, 5, "Drehen [min]"),
-        (4, 6, "Fr\u00e4sen [min]"),
+        (2, 0, ""), (2, 3, ""), (2, 7, ""), (3, 2, "Kunde"), (4, 5, "Drehen [min]"), (4, 6, "Fr\u00e4sen [min]"),
         (4, 8, "Bemerkung"), (5, 1, "")]
-    assert str(fault.value).split("\n")[2] == f"{tmp_path / 'file'}: cell B3, column 'Kunde': 'Meyer' isn't a time: " \
+    assert str(fault.value).split("\n")[3] == f"{tmp_path / 'file'}: cell B3, column 'Kunde': 'Meyer' isn't a time: " \
                                               f"{NO_MACHINE} (and 1 more cell of the column)"
     assert str(pickle.loads(pickle.dumps(fault.value))) == str(fault.value)
     for more in (0, 1):

@@ -15,6 +15,7 @@ from unittest import mock
 import numpy as np
 import pfs
 import pytest
+from support.commands import ended
 from pfs.base import checkout, workbooks as _workbooks
 from pfs.base.faults import Refused
 from pfs.base.units import seconds_in
@@ -217,6 +218,14 @@ TOTALS = ("Total,SUBTOTAL,Grand total,Summe,Summen,Sum,sums,Zwischensumme,Gesamt
           "\u00d8").split(",")
 QUANTITIES = ("Menge Anzahl St\u00fcck Stueck St\u00fcckzahl Stk. Quantity Qty Pieces pcs Quantit\u00e9 Qt\u00e9 "
               "Cantidad Aantal").split()
+CAPACITIES = ("Kapazit\u00e4t,KAPAZITAET [h],verf\u00fcgbar,Verfuegbare,Verf\u00fcgbarkeit (min),Auslastung %,"
+              "Auslastung:,Capacity,capacity h,Available,Availability,Utilization,utilisation [%],Kapazit\u00e4t Std."
+              ).split(",")
+OF_EXPORTS = ("Losgr\u00f6\u00dfe,LOSGROESSE,Los,Lot,lot size,Lot-Size [pcs],batch size,Auftragsmenge,Sollmenge,"
+              "Restmenge (Stk),R\u00fcsten,R\u00fcstzeit,Ruestzeit [min],R\u00fcst.,Setup,set-up,Set up time,Prio,"
+              "Priorit\u00e4t,priority,Kst,KST.,Kostenstelle,cost center,KW,Kalenderwoche,Week,Pos,Pos.,Position,"
+              "Termin,Liefertermin,Endtermin,due,Due date").split(",")
+MACHINES = "Los 1,Pos 7,KW 49,Dues,Lotte,Prior,Setups 2,Terminal,Capacity test,Polierstation,R\u00fcttler".split(",")
 JOBS = ("Job Jobs job# Order Orders Workorder WO Work-Order Auftrag Auftr\u00e4ge Fertigungsauftrag Auftrags-Nr. FA OF "
         "Ordre Ordres Commande Pedido Pedidos Ordine Ordini Part Parts Lot Lots Los Teil Teile Artikel Item Items Pos "
         "Position ID Nr. No. N\u00b0 Number Nummer Num\u00e9ro Job_ID Pos:").split()
@@ -232,6 +241,17 @@ def test_words_of_sums_and_jobs(tmp_path: pathlib.Path) -> None:
                 pfs.read_csv(path)
             path.write_text(f"job;saw;{'drill' if is_row else f'x{name}'}\na;1;2\nx{name if is_row else ''};7;9\n")
             assert pfs.read_csv(path).jobs == 2, name
+    for names, said, is_row in ((CAPACITIES, "looks like no job: leave it out, or allow", True),
+                                (CAPACITIES + OF_EXPORTS, "looks like no machine: leave the column out", False)):
+        for name in names:
+            path.write_text(f"job;saw;{'drill' if is_row else name}\na;1;2\n{name if is_row else 'b'};7;9\n")
+            with pytest.raises(pfs.TableFault, match=said):
+                pfs.read_csv(path)
+            shop = pfs.read_csv(path, allow_totals=is_row, machines=None if is_row else [name])
+            assert shop.times.tolist() == ([[1, 2], [7, 9]] if is_row else [[2], [9]])
+    for name in MACHINES:
+        path.write_text(f"job;saw;{name}\na;1;2\n{name};7;9\n")
+        assert pfs.read_csv(path).machine_names == ("saw", name)
     for name in JOBS:
         path.write_text(f"{name};1;2\n7;1;2\n8;7;9\n")
         assert pfs.read_csv(path).job_names == ("7", "8"), name
@@ -489,3 +509,76 @@ def test_each_machine_has_a_calendar(tmp_path: pathlib.Path) -> None:
 def test_what_a_value_of_a_plan_must_be(key: str, what: str) -> None:
     with pytest.raises(ExperimentError, match=f"^p: {key} must be {re.escape(what)}$"):
         plan.method_of("p", {key: {}})
+
+
+# Times of a piece
+
+PIECES = "job;qty;set-up;saw [min{}];drill\nA;10;15;2,5;0\nB;20;0;1,5;4\nC;5;30;2;0,25\n"
+
+
+def pieces(folder: pathlib.Path, *words: str, text: str = PIECES.format("")) -> tuple[int, list[list[int]], int, str]:
+    """The status, the times that are planned with their decimals, and the errors."""
+    (folder / "times.csv").write_text(text)
+    status, _, got = ended(["plan", "times.csv", "--unit", "min", "--rest", "rest.csv", *words], folder)
+    shop = pfs.read_csv(folder / "rest.csv") if status == 0 else pfs.Instance([[0]])
+    return status, shop.times.tolist(), shop.decimals, got
+
+
+def test_quantities_and_set_ups(tmp_path: pathlib.Path) -> None:
+    """By hand. A time of 0 stays 0."""
+    both = ["--quantity", "qty", "--setup", "set-up"]
+    assert pieces(tmp_path, *both) == (0, [[4000, 0], [3000, 8000], [4000, 3125]], 2, "")
+    assert pieces(tmp_path, *both[:2], "--machines", "drill,saw") == (
+        0, [[0, 2500], [8000, 3000], [125, 1000]], 2, "times.csv: columns that are left out: set-up\n")
+    assert pieces(tmp_path, *both[:3], "SAW=set-up")[:3] == (0, [[4000, 0], [3000, 8000], [4000, 125]], 2)
+    assert pieces(tmp_path, *both[:3], "saw=set-up", "--setup", "drill=set-up")[:2] == pieces(tmp_path, *both)[:2]
+    assert pieces(tmp_path, *both[2:], "--machines", "saw")[:3] == (0, [[175], [15], [320]], 1)
+    # The names above those of the machines, as exports have them.
+    text = "job;qty;a piece takes\n;;saw;drill\nA;3;2;0\nB;1;1;5\n"
+    assert pieces(tmp_path, *both[:2], "--machines", "saw,drill", text=text) == (0, [[6, 0], [1, 5]], 0, "")
+    text = "job;qty;note=;saw=x\nA;3;2;5\n"
+    assert pieces(tmp_path, *both[:2], "--setup", "note=", "--machines", "saw=x", text=text)[:2] == (0, [[17]])
+    text = "job [h:mm];qty;saw\nA;3;1:30\n"
+    (tmp_path / "times.csv").write_text(text)
+    assert "makespan 4:30 h" in ended(["plan", "times.csv", *both[:2]], tmp_path)[1]
+
+
+@pytest.mark.parametrize("unit", ["/Stk", "/pc", " je St\u00fcck", " per piece", "/St.", " pro Teil", "/ each"])
+def test_times_of_a_piece_need_a_quantity(tmp_path: pathlib.Path, unit: str) -> None:
+    text = PIECES.format(unit).replace("drill", f"drill [min{unit}]")
+    machines = ["--machines", "saw,drill"]
+    said = (f"pfs: times.csv: cell D1: 'saw [min{unit}]' says that times are those of a piece: say which column has "
+            "the quantities (--quantity), or leave these words out\n")
+    status, _, _, got = pieces(tmp_path, *machines, text=text)
+    assert status == 2 and got.startswith(said) and "cell E1" in got
+    status, times, decimals, _ = pieces(tmp_path, *machines, "--quantity", "qty", text=text)
+    assert (status, times, decimals) == (0, [[2500, 0], [3000, 8000], [1000, 125]], 2)
+    for text in (f"job;saw{unit};drill\nA;1;2\n", f"times{unit}\njob;saw;drill\nA;1;2\n",
+                 f"job [min{unit}];saw\nA;1\n"):
+        assert "says that times are those of a piece" in pieces(tmp_path, text=text)[3]
+    for heads in ("saw [min/d];drill", "piece;perpiece", "saw/stack;drill per partition"):
+        assert pieces(tmp_path, text=f"job;{heads}\nA;1;2\n")[::3] == (0, "")
+
+
+@pytest.mark.parametrize(("quantity", "said"), [
+    ("", "the quantity is missing: write how many pieces there are"),
+    *((each, f"{each!r} isn't a whole number of pieces, from 1 to 999,999,999")
+      for each in ("0", "2,5", "-1", "x", "1000000000", "1.000"))])
+def test_quantities_that_are_none(tmp_path: pathlib.Path, quantity: str, said: str) -> None:
+    text = PIECES.format("").replace("B;20", f"B;{quantity}")
+    status, _, _, got = pieces(tmp_path, "--quantity", "qty", "--setup", "set-up", text=text)
+    assert (status, got) == (2, f"pfs: times.csv: cell B3, column 'qty': {said}\n")
+
+
+def test_other_faults_of_pieces(tmp_path: pathlib.Path) -> None:
+    for words, said in (
+            (["--quantity", "none"], "line 1, no column is named 'none': this row has qty, set-up, saw [min], drill "
+             "(--quantity)"), (["--setup", "saw=none"], "no column is named 'none'"),
+            (["--setup", "none=qty"], "no column is named 'none'"), (["--setup", "=qty"], "no column is named ''")):
+        status, _, _, got = pieces(tmp_path, *words)
+        assert status == 2 and said in got, got
+    most = PIECES.format("").replace("B;20;0;1,5", "B;999999999;0;999999999")
+    assert "the time is above 1,000,000,000" in pieces(tmp_path, "--quantity", "qty", "--setup", "set-up", text=most)[3]
+    text = PIECES.format("").replace("A;10;15", "A;10;")
+    assert "cell C2, column 'set-up': the time is missing" in pieces(
+        tmp_path, "--quantity", "qty", "--setup", "set-up", text=text)[3]

@@ -100,7 +100,7 @@ def test_orders_of_workbooks(tmp_path: pathlib.Path) -> None:
     """They are read whole, and not with formulas without values."""
     shop = pfs.Instance([[1] * 3] * 4_000)
     shop.schedule(range(3_999, -1, -1)).to_xlsx(tmp_path / "plan.xlsx")
-    assert order_in(tmp_path / "plan.xlsx", shop) == ([*range(3_999, -1, -1)], {})
+    assert order_in(tmp_path / "plan.xlsx", shop)[:2] == ([*range(3_999, -1, -1)], {})
     path = book_of(tmp_path / "order.xlsx", ("job",), ("2",), ("=A2",))
     with pytest.raises(pfs.TableFault, match="order.xlsx: cell A3: has a formula without a value"):
         order_in(path, shop)

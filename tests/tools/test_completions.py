@@ -31,7 +31,7 @@ OFFERED = {
     "pfs-gantt th": {"three"},
     "pfs-web --": {"--help", *(f"-{option}" for option in re.findall(
         r"^\.It Fl (-[\w-]+)", MANUAL.with_name("pfs-web.1").read_text(), re.MULTILINE))},
-    "pfs-plan --s": {"--seconds", "--seed", "--sheet", "--shift", "--schedule"},
+    "pfs-plan --s": {"--seconds", "--seed", "--sheet", "--shift", "--schedule", "--setup"},
     "pfs-plan --decimal=": {"point", "comma"}, "pfs-plan --method ": {"solve", "iterated-greedy"},
 }
 

@@ -34,6 +34,7 @@ from pfs.commands.cli import CommandLine, Misused, ShowVersion, number, report, 
 from pfs.files.instances import content_of, read, read_order
 from pfs.files.state import State
 from pfs.files.tables import Table, described, table_of, write_table
+from pfs.plan.dates import dates_in, is_of_another
 from pfs.plan.orders import FoundOrder, moved, numbers_by_name, order_in, stated_end
 from pfs.plan.plan import Limits, Plan, calendar_of, is_provable
 from pfs.schedules.calendar import Calendar, Clock, begin_of, dates_of, days_of, needed, shifts_of, text_of as date_text
@@ -165,16 +166,14 @@ def plan_command(given: argparse.Namespace) -> int:
     check_outputs([given.table, given.order, given.compare, given.language, *given.files], given.schedule, given.chart,
                   given.rest)
     words_of(given.language)
-    # As a row of a table, so that a name with a comma may be in quotes.
-    rows = csv.reader([] if given.machines is None else [given.machines], skipinitialspace=True)
-    machines: list[str] | None = next(rows, None)
-    table = table_of(given.table, given.unit, DECIMAL_SIGNS.get(given.decimal), given.allow_totals, machines,
-                     given.sheet, given.decimals)
+    table = table_of(given.table, given.unit, DECIMAL_SIGNS.get(given.decimal), given.allow_totals,
+                     names_in(given.machines), given.sheet, given.decimals, given.quantity, given.setup)
     if table.note:
         written(sys.stderr, f"pfs: {as_options(shown(table.note))}\n")
     if calendar is not None:
         Clock(calendar, table.shop)
     written(sys.stderr, f"{shown(described(table.shop))}\n")
+    tell(given.table, "columns that are left out", table.left_out)
     tell(given.table, table.rounded)
     plan = begun_plan(given, table.shop, calendar)
     search = plan_search(given, plan)
@@ -193,6 +192,11 @@ def plan_command(given: argparse.Namespace) -> int:
                 faults.append(failure)
     statuses = [report("pfs", each, as_options) for each in faults]
     return statuses[0] if statuses else status_of(caught)
+
+
+def names_in(text: str | None) -> list[str]:
+    """The names of columns in an option: as a row of a table, so that one with a comma may be in quotes."""
+    return next(csv.reader([] if text is None else [text], skipinitialspace=True), [])
 
 
 def outputs_of(given: argparse.Namespace, plan: Plan, table: Table,
@@ -214,9 +218,11 @@ def begun_plan(given: argparse.Namespace, shop: Instance, calendar: Calendar | N
         return Plan(shop, found, given.hold, calendar, given.language)
     if calendar is None or given.order is None and given.now:
         raise ValueError("--now needs --begin and --order, and --down needs --begin")
-    plan, done = Plan(shop, found, 0, calendar, given.language).rest(
-        given.now or given.begin, given.down, given.hold, given.order)
-    assert plan.calendar is not None
+    before = Plan(shop, found, 0, calendar, given.language)
+    plan, done = before.rest(given.now or given.begin, given.down, given.hold, given.order)
+    assert plan.calendar is not None and before.clock is not None
+    if given.now and given.order:
+        tell(given.order, is_of_another(shop, dates_in(shop, found, given.order), before.clock))
     begin, held = plan.calendar.begin, len(plan.held)
     written(sys.stderr, f"from {date_text(begin, 0 if begin.second else -1)} on: {len(done)} finished, {held} held, "
                         f"{plan.shop.jobs - held} to plan\n")
@@ -384,6 +390,11 @@ def add_plan_words(plan: argparse.ArgumentParser) -> None:
     add("--machines", metavar="NAMES",
         help="the columns that are machines, by their names, with commas, in the order of the machines; other columns "
         "are skipped. A name with a comma is in double quotes")
+    add("--quantity", metavar="COLUMN",
+        help="the column with the pieces of each job: the times of the table are those of a piece")
+    add("--setup", metavar="[MACHINE=]COLUMN", action="append", default=[],
+        help="the column with the set-up of each job, which is added to its times that aren't 0, on all machines or on "
+        "this one; may be given more than once")
     add("--allow-totals", action="store_true",
         help="take rows and columns with the names of sums, means or quantities, and a last one with the sums of the "
         "others, as jobs and machines")
@@ -438,8 +449,9 @@ def add_date_words(add: Callable[..., object]) -> None:
     add("--shift", type=checked(shifts_of), action="append", default=[], metavar="FROM-TO",
         help="when there is work, such as 06:00-14:00, also across midnight; several with commas, or the option more "
         "than once; by default around the clock. A day of the week or a date has other shifts by fri:06:00-12:00 or "
-        "2026-12-05:06:00-12:00. Operations stop at the end of a shift and continue with the next one; this changes "
-        "neither the order nor the makespan")
+        "2026-12-05:06:00-12:00. From a date on, 2026-12-02..:06:00-18:30 changes the shifts of the days without own "
+        "ones, and 2026-12-02..fri:06:00-14:00 those of Fridays. Operations stop at the end of a shift and continue "
+        "with the next one; this changes neither the order nor the makespan")
     add("--days", type=checked(days_of), action="append", default=[], metavar="DAYS",
         help="the days on which the other shifts start, such as mon-fri or mon,wed,fri; by default all")
     add("--closed", type=checked(dates_of), action="append", default=[], metavar="DATES",

@@ -8,7 +8,7 @@ import re
 import warnings
 from collections.abc import Callable, Iterable, Iterator, Sequence
 from functools import cached_property, partial
-from itertools import islice
+from itertools import islice, takewhile
 from typing import NamedTuple, TypeAlias
 
 import numpy as np
@@ -27,6 +27,9 @@ from pfs.shops.instance import Instance
 MOST_CELLS, MOST_ROWS = 16_384, 10_000
 LINE = re.compile(r"[^\r\n]*(?:\r\n?|\n)|[^\r\n]+")
 QUOTED = re.compile(r'(?:^|(?<=[,;\t\r])) *(?:"[^"]*")+', re.MULTILINE)
+# A time for each piece: the unit of its time in a unit in brackets, and words in a name.
+PIECE = r"(?:stk|st(?:\u00fc|ue)ck|st|teil|pcs?|pieces?|parts?|units?|ea(?:ch)?)\b\.?"
+PER_PIECE = re.compile(rf"(.*?)\s*(?:/|\bje\b|\bpro\b|\bper\b)\s*{PIECE}", re.IGNORECASE)
 # A unit in brackets at the end of a name.
 UNIT = re.compile(r"[\[(]([^\[\]()]+)[\])]\Z")
 NUMBER = re.compile(r"([0-9]{1,20})(?:([.,])([0-9]{1,20}))?\Z")
@@ -65,6 +68,17 @@ QUANTITIES = (r"|menge|anzahl|st(?:\u00fc|ue)ck(?:zahl)?|stk|quantity|qty|pieces
               r"|aantal")
 NO_JOB = re.compile(rf"(?:{TOTALS})(?!\w)", re.IGNORECASE)
 NO_TIMES = re.compile(rf"(?:{TOTALS}{QUANTITIES})(?!\w)", re.IGNORECASE)
+# Whole names, perhaps with a unit, of rows that are no job, and of columns of an export that are no machine.
+CAPACITIES = (r"kapazit(?:\u00e4|ae)t(?:en)?|capacity|verf(?:\u00fc|ue)gbar\w*|available|availability|auslastung"
+              r"|utili[sz]ation")
+SET_UPS = r"r(?:\u00fc|ue)st(?:en|zeit(?:en)?)?|set[ -]?ups?(?:[ -]?times?)?"
+OF_EXPORTS = (rf"{CAPACITIES}|{SET_UPS}|los(?:gr(?:\u00f6|oe)(?:\u00df|ss)en?)?|(?:lot|batch)(?:[ -]?sizes?)?"
+              r"|(?:auftrags|bestell|fertigungs|ist|los|plan|rest|soll)mengen?"
+              r"|prio(?:rit(?:\u00e4t|aet|y))?|kst|kostenstelle|cost cent(?:er|re)|kw|kalenderwoche|week|pos(?:ition)?"
+              r"|\w*termin|due(?:[ -]?date)?")
+WITH_UNIT = r"(?:[\W_]*(?:[\[(].*)?|\s+(?:h|min|std)\.?)\Z"
+CAPACITY = re.compile(rf"(?:{CAPACITIES}){WITH_UNIT}", re.IGNORECASE)
+OF_EXPORT = re.compile(rf"(?:{OF_EXPORTS}){WITH_UNIT}", re.IGNORECASE)
 # The first cell of a table in which the names may be numbers.
 SAYS_JOB = re.compile(r"(?:(?:jobs?|(?:work)?orders?|wo(?:rk(?!order))?|(?:fertigungs)?auftr(?:ag|\u00e4ge)s?|fa|of"
                       r"|ordres?|commandes?|pedidos?|ordin[ei]|parts?|lots?|los|teile?|artikel|items?|pos(?:ition)?|id"
@@ -97,6 +111,8 @@ class Table(NamedTuple):
     note: str
     # What was rounded, or an empty text.
     rounded: str
+    # The names of the columns that were left out.
+    left_out: tuple[str, ...] = ()
 
 
 class Cell(NamedTuple):
@@ -128,13 +144,19 @@ class Rows:
         self.corner: Cell
         self.machines: list[Cell] = []
         self.jobs: list[Cell] = []
+        # The columns with the pieces of each job and with set-ups, and the machines that each of these is for.
+        self.quantity: Cell | None = None
+        self.setups: list[Cell] = []
+        self.set_up: list[list[Cell]] = []
+        # The names of the other columns.
+        self.left_out: list[str] = []
         # The first cell of each column that isn't a time, and how many there are, for each cause.
         self.wrong: dict[tuple[int, str], tuple[TableFault, int]] = {}
 
     @cached_property
     def heads(self) -> dict[int, str]:
-        """The names of the machines by their columns."""
-        return {head.column: head.text for head in self.machines}
+        """The names of the columns that are read."""
+        return {head.column: head.text for head in [*self.machines, *self.setups, *filter(None, [self.quantity])]}
 
     def fault(self, cell: Cell, text: str) -> TableFault:
         head = self.heads.get(cell.column, "") if cell.line > self.corner.line else ""
@@ -144,15 +166,20 @@ class Rows:
         self.faults.append(self.fault(cell, text))
 
     def times(self) -> Iterator[list[Cell]]:
-        """Read the times again, row by row: all of their cells would take a hundred times the memory of the text."""
-        lines, columns = {job.line for job in self.jobs}, [head.column for head in self.machines]
+        """Read the times and set-ups again, row by row: all of their cells would take a hundred times the memory of the
+        text."""
+        return self.cells([*self.machines, *self.setups])
+
+    def cells(self, heads: Iterable[Cell]) -> Iterator[list[Cell]]:
+        """Read the cells of the jobs below these ones."""
+        lines, columns = {job.line for job in self.jobs}, [head.column for head in heads]
         for line, row in self.records():
             if line in lines:
                 yield [Cell(line, column, row[column - 1] if column <= len(row) else "") for column in columns]
 
     def read_times(self, read: Callable[[Cell], int]) -> Order:
         """Read each time. Of each column the first cell that isn't one is noted for each cause."""
-        times = np.zeros((len(self.jobs), len(self.machines)), dtype=np.int64)
+        times = np.zeros((len(self.jobs), len(self.machines) + len(self.setups)), dtype=np.int64)
         for at, row in enumerate(self.times()):
             if not any(cell.text for cell in row):
                 self.report(self.jobs[at], EMPTY_ROW)
@@ -181,7 +208,7 @@ class Rows:
 
 def read_csv(source: str | os.PathLike[str], unit: str = "", *, decimal: str | None = None,
              allow_totals: bool = False, machines: Iterable[str] | None = None, sheet: str | None = None,
-             decimals: int | None = None) -> Instance:
+             decimals: int | None = None, quantity: str | None = None, setup: Iterable[str] = ()) -> Instance:
     """Read a table of times from a CSV file or a workbook: a row for each job, a column for each machine.
 
     Parameters
@@ -212,6 +239,12 @@ def read_csv(source: str | os.PathLike[str], unit: str = "", *, decimal: str | N
     decimals : int, optional
         Round times with more decimals than this, 0 to 9, to the nearest one, and halves up. By default no time is
         rounded, and one with more than 9 decimals is rejected. Numbers of workbooks have 9 decimals at most.
+    quantity : str, optional
+        The name of the column with the pieces of each job: the times of the table are then those of a piece. A table
+        that says that they are, as in ``saw [min/pc]``, is rejected without it.
+    setup : iterable of str
+        The names of columns with set-ups, which are added to the times of a job that aren't 0: on all machines, or on
+        one, as in ``saw=set-up``.
 
     Returns
     -------
@@ -245,15 +278,15 @@ def read_csv(source: str | os.PathLike[str], unit: str = "", *, decimal: str | N
     table,saw,2.0,5.0
     table,drill,7.0,9.5
     """
-    found = table_of(source, unit, decimal, allow_totals, machines, sheet, decimals)
+    found = table_of(source, unit, decimal, allow_totals, machines, sheet, decimals, quantity, setup)
     if found.note:
         warnings.warn(found.note, stacklevel=2)
     return found.shop
 
 
 def table_of(source: str | os.PathLike[str], unit: str, decimal: str | None, allow_totals: bool,
-             machines: Iterable[str] | None = None, sheet: str | None = None,
-             most_decimals: int | None = None) -> Table:
+             machines: Iterable[str] | None = None, sheet: str | None = None, most_decimals: int | None = None,
+             quantity: str | None = None, setup: Iterable[str] = ()) -> Table:
     """Read a table. The parameters are those of `read_csv`."""
     path = os.fspath(source)
     content, faults, note, texts = content_of(path, "table"), list[TableFault](), "", None
@@ -264,9 +297,9 @@ def table_of(source: str | os.PathLike[str], unit: str, decimal: str | None, all
         if sheet is not None:
             raise ValueError(f"{path} isn't a workbook (.xlsx), and has no sheet {sheet!r}")
     delimiter = delimiter_of(text)
-    shop, rounded = table_in(lambda: records(text, path, delimiter), path, delimiter, unit, decimal, allow_totals,
-                             machines, most_decimals, texts, faults)
-    return Table(shop, delimiter, content.startswith(MARKS), note, rounded)
+    rows = Rows(path, lambda: records(text, path, delimiter), delimiter, texts, bool(machines), faults)
+    shop, rounded = shop_in(rows, unit, decimal, allow_totals, machines, most_decimals, quantity, setup)
+    return Table(shop, delimiter, content.startswith(MARKS), note, rounded, tuple(rows.left_out))
 
 
 def table_in(records: Records, path: str, delimiter: str, unit: str, decimal: str | None, allow_totals: bool,
@@ -274,11 +307,20 @@ def table_in(records: Records, path: str, delimiter: str, unit: str, decimal: st
              faults: Iterable[TableFault] = ()) -> tuple[Instance, str]:
     """Read a table from the rows of a file, with its faults so far, or of a workbook, with the places of its texts.
     Return it, and what was rounded."""
+    names = [*(machines or ())]
+    rows = Rows(path, records, delimiter, texts, bool(names), [*faults])
+    return shop_in(rows, unit, decimal, allow_totals, names, most_decimals)
+
+
+def shop_in(rows: Rows, unit: str, decimal: str | None, allow_totals: bool, machines: Iterable[str] | None,
+            most_decimals: int | None, quantity: str | None = None, setup: Iterable[str] = ()) -> tuple[Instance, str]:
+    """Read a table from its rows. Return it, and what was rounded."""
     most_decimals = None if most_decimals is None else checked_int(most_decimals, "decimals", 0, 9)
     if decimal not in (None, ".", ","):
         raise ValueError(f"decimal must be '.' or ',', not {decimal!r}")
-    names = list(machines or ())
-    table = rows_of(Rows(path, records, delimiter, texts, bool(names), [*faults]), names)
+    names, setups = [*(machines or ())], [*setup]
+    rows.is_chosen = bool(names)
+    table = rows_of(rows, names, quantity, setups)
     if not allow_totals:
         leave_out_totals(table)
     heads, found = without_units(table, unit)
@@ -290,8 +332,8 @@ def table_in(records: Records, path: str, delimiter: str, unit: str, decimal: st
     table.check()
     if not allow_totals:
         reject_sums(table, times)
-    shop = Instance(times, name=os.path.basename(path), job_names=job_names, machine_names=machine_names, unit=found,
-                    decimals=decimals)
+    shop = Instance(times, name=os.path.basename(table.path), job_names=job_names, machine_names=machine_names,
+                    unit=found, decimals=decimals)
     return shop, sign.rounded()
 
 
@@ -380,7 +422,7 @@ def records(text: str, path: str, delimiter: str) -> Iterator[tuple[int, list[st
         raise TableFault(path, reader.line_num, 0, f"isn't a row of a table: {error}") from None
 
 
-def rows_of(table: Rows, machines: list[str]) -> Rows:
+def rows_of(table: Rows, machines: list[str], quantity: str | None, setups: list[str]) -> Rows:
     """Return the table: the rows from the first one on that has more than a first cell, or that names these machines.
     Those above it are titles."""
     path = table.path
@@ -402,11 +444,64 @@ def rows_of(table: Rows, machines: list[str]) -> Rows:
     if not used:
         reject_columns(table, titles, machines)
     line = table.corner.line
-    columns = [the_column(table, head, name) for name in machines] or sorted(used)[1:]
-    table.machines = [Cell(line, column, head[column - 1] if column <= len(head) else "") for column in columns]
+    heads = {column: Cell(line, column, head[column - 1] if column <= len(head) else "") for column in sorted(used)}
+    named = [machine_and_column(table, text) for text in setups]
+    table.setups = [named_column(table, name, "setup") for _, name in named]
+    table.quantity = None if quantity is None else named_column(table, quantity, "quantity")
+    own = {cell.column for cell in [*table.setups, *filter(None, [table.quantity])]}
+    others = [cell for column, cell in heads.items() if column > 1 and column not in own]
+    table.machines = [heads[the_column(table, head, name)] for name in machines] or others
+    table.left_out = [name for cell in others if cell not in table.machines and (name := name_of_column(table, cell))]
+    table.set_up = [[cell for cell in table.machines if not name or cell.column == the_column(table, head, name)]
+                    for name, _ in named]
+    check_pieces(table)
     if not machines:
         check_titles(table, titles)
     return table
+
+
+def heads_of(table: Rows) -> list[tuple[int, list[str]]]:
+    """The rows with names of columns: that of the machines first, and then those above it."""
+    return [*takewhile(lambda each: each[0] <= table.corner.line, table.records())][::-1]
+
+
+def machine_and_column(table: Rows, text: str) -> tuple[str, str]:
+    """The machine and the column of a set-up: `saw=set-up`, or only a column, for all machines."""
+    machine, _, column = text.partition("=")
+    rows = [row for _, row in heads_of(table)]
+    if any(columns_of(row, text) for row in rows) or not column:
+        return "", text
+    named_column(table, machine, "setup")
+    return machine, column
+
+
+def named_column(table: Rows, name: str, what: str) -> Cell:
+    """The column with this name, which may be above the names of machines."""
+    head, *above = [row for _, row in heads_of(table)]
+    row = next((row for row in [head, *above] if columns_of(row, name)), None)
+    if row is None:
+        others = ", ".join(filter(None, head[1:])) or "no other names"
+        raise TableFault(table.path, table.corner.line, 0, f"no column is named {name!r}: this row has {others} "
+                                                           f"(`{what}`)")
+    return Cell(table.corner.line, the_column(table, row, name), name)
+
+
+def name_of_column(table: Rows, head: Cell) -> str:
+    """The name of a column that is left out: above it, if it has only a unit."""
+    texts = [row[head.column - 1] for _, row in heads_of(table) if head.column <= len(row)]
+    return next((text for text in texts if text and seconds_in(text) is None), "")
+
+
+def check_pieces(table: Rows) -> None:
+    """Report times that are those of a piece, by their unit, the name of their column or a title above, unless there is
+    a column with the quantities."""
+    if table.quantity is not None:
+        return
+    above = [Cell(line, column, text) for line, row in heads_of(table)[1:] for column, text in enumerate(row, 1)]
+    for cell in [*above, table.corner, *table.machines]:
+        if PER_PIECE.search(cell.text):
+            table.report(cell, f"{cell.text!r} says that times are those of a piece: say which column has the "
+                               "quantities (`quantity`), or leave these words out")
 
 
 def is_head(row: Sequence[str], above: Sequence[str] | None, machines: list[str]) -> bool:
@@ -463,13 +558,17 @@ def check_titles(table: Rows, titles: Sequence[Cell]) -> None:
 
 
 def leave_out_totals(table: Rows) -> None:
-    """Report rows and columns that are named as sums, means or quantities. Columns may be if they were chosen."""
+    """Report rows and columns whose names aren't those of jobs and machines: of sums, means, quantities, capacities,
+    and what else exports have. Columns may be if they were chosen."""
+    machines = [] if table.is_chosen else table.machines
+    allow = "leave it out, or allow totals (`allow_totals`)"
     for cells, pattern, what in (
-            (table.jobs, NO_JOB, "the row {!r} looks like a sum or a mean"),
-            ([] if table.is_chosen else table.machines, NO_TIMES,
-             "the column {!r} looks like a sum, a mean or a quantity")):
+            (table.jobs, NO_JOB, f"the row {{!r}} looks like a sum or a mean: {allow}"),
+            (table.jobs, CAPACITY, f"the row {{!r}} looks like no job: {allow}"),
+            (machines, NO_TIMES, f"the column {{!r}} looks like a sum, a mean or a quantity: {allow}"),
+            (machines, OF_EXPORT, f"the column {{!r}} looks like no machine: {NO_MACHINE}")):
         for cell in [cell for cell in cells if pattern.match(cell.text)]:
-            table.report(cell, f"{what.format(cell.text)}: leave it out, or allow totals (`allow_totals`)")
+            table.report(cell, what.format(cell.text))
             cells.remove(cell)
 
 
@@ -496,9 +595,10 @@ def names_in(table: Rows, cells: Iterable[Cell], what: str) -> list[str]:
 
 
 def unit_in(text: str) -> str:
-    """The text in brackets at the end of a name."""
+    """The text in brackets at the end of a name; of a time for each piece its unit."""
     found = UNIT.search(text)
-    return found[1].strip() if found else ""
+    piece = PER_PIECE.fullmatch(found[1].strip()) if found else None
+    return piece[1] if piece else found[1].strip() if found else ""
 
 
 def kind_of(unit: str) -> tuple[int, bool] | None:
@@ -541,7 +641,8 @@ def likely_machines(rows: Iterable[tuple[int, Sequence[str]]]) -> list[str]:
         found = []
         for column, name in enumerate(texts[at][1:], 1):
             below = [cells[column] for cells in texts[at + 1:] if column < len(cells) and cells[column]]
-            if name and not is_time(name) and not NO_TIMES.match(name) and 2 * sum(map(is_time, below)) > len(below):
+            is_other = is_time(name) or NO_TIMES.match(name) or OF_EXPORT.match(name)
+            if name and not is_other and 2 * sum(map(is_time, below)) > len(below):
                 found.append(name)
         best = max(best, found, key=len)
     return best
@@ -587,6 +688,7 @@ def times_of(table: Rows, sign: DecimalSign, unit: str) -> tuple[Order, int, str
         # In billionths. What is too long for them is too long for a time.
         times, decimals, note = table.read_times(sign.billionths_of), sign.decimals, ""
         times //= 10**(9 - decimals)
+    times = of_all_pieces(table, times)
     for job, machine in np.argwhere(times > c.LONGEST_TIME)[:1].tolist():
         cell, most = Cell(table.jobs[job].line, table.machines[machine].column, ""), f"above {c.LONGEST_TIME:,}"
         if sign.longest is None or times[job, machine] > c.LONGEST_TIME * 10**decimals:
@@ -595,6 +697,34 @@ def times_of(table: Rows, sign: DecimalSign, unit: str) -> tuple[Order, int, str
             table.report(sign.longest, f"{sign.longest.text!r} has {counted(decimals, 'decimal')}, in which the time "
                                        f"in {cell.name} is {most}: {ROUND_IT}")
     return times, decimals, unit
+
+
+def of_all_pieces(table: Rows, times: Order) -> Order:
+    """The time of each job on each machine: its set-up, and the time of a piece as often as there are pieces. Where a
+    piece takes no time, the job skips the machine."""
+    if table.quantity is None and not table.setups:
+        return times
+    count = len(table.machines)
+    # What is too long for 64 bits is too long for a time.
+    each = times[:, :count].astype(object)
+    is_skipped = each == 0
+    if table.quantity is not None:
+        for row, (cell,) in zip(each, table.cells([table.quantity])):
+            row *= pieces_of(table, cell)
+    for own, machines in zip(times[:, count:].T, table.set_up):
+        for machine in machines:
+            each[:, table.machines.index(machine)] += own
+    most: Order = np.where(is_skipped, 0, np.minimum(each, np.iinfo(np.int64).max)).astype(np.int64)
+    return most
+
+
+def pieces_of(table: Rows, cell: Cell) -> int:
+    """Return a quantity."""
+    if re.fullmatch("[0-9]{1,9}(?:[.,]0)?", cell.text) is None or not int(re.split("[.,]", cell.text)[0]):
+        table.report(cell, f"{cell.text!r} isn't a whole number of pieces, from 1 to 999,999,999"
+                     if cell.text else "the quantity is missing: write how many pieces there are")
+        return 1
+    return int(re.split("[.,]", cell.text)[0])
 
 
 def check_clock(table: Rows, unit: str) -> None:

@@ -6,7 +6,7 @@ import csv
 import os
 import re
 from bisect import bisect_left
-from collections.abc import Collection, Iterator, Sequence
+from collections.abc import Collection, Iterable, Iterator, Sequence
 from itertools import chain, islice, takewhile
 from typing import NamedTuple, TypeVar
 
@@ -33,11 +33,12 @@ Job = TypeVar("Job", int, str)
 
 
 class FoundOrder(NamedTuple):
-    """An order that was read: the jobs that the table has, and the names that it lacks, with how many of these jobs are
-    before each."""
+    """An order that was read: the jobs that the table has, the names that it lacks, with how many of these jobs are
+    before each, and the rows of operations with their lines, if it is a schedule."""
 
     jobs: list[int]
     gone: dict[str, int]
+    rows: Sequence[tuple[int, list[str]]] = ()
 
 
 def order_in(path: str | os.PathLike[str], shop: Instance, language: str = "en") -> FoundOrder:
@@ -51,13 +52,14 @@ def order_in(path: str | os.PathLike[str], shop: Instance, language: str = "en")
     numbers = numbers_by_name(shop)
     # The line of each job of the table, and of each other name.
     seen: dict[int | str, int] = {}
-    heads = {tuple(map(words_of(each), OPERATIONS)) for each in ("en", "de", language)}
-    for line, name in named_jobs(text_of(content, path), path, numbers, heads):
+    text = text_of(content, path)
+    rows = operations_in(text, path, language)
+    for line, name in named_jobs(text, path, numbers) if rows is None else firsts_of(rows):
         job = numbers.get(name, name)
         if job in seen:
             raise TableFault(path, line, 0, f"the job {name!r} is in line {seen[job]} too")
         seen[job] = line
-    found = FoundOrder([], {})
+    found = FoundOrder([], {}, rows or ())
     for job in seen:
         if isinstance(job, int):
             found.jobs.append(job)
@@ -128,22 +130,33 @@ def rows_of_table(text: str, path: str, delimiter: str, numbers: Collection[str]
     return rows[1:] if firsts > seconds or (firsts == seconds and not SAYS_JOB.match(head[1])) else []
 
 
-def named_jobs(text: str, path: str, numbers: dict[str, int], heads: Collection[tuple[str, ...]]) -> Iterator[
-        tuple[int, str]]:
-    """Return the names of the jobs with their lines. A schedule has one of the rows of heads, and each job several
-    times; the first is used."""
-    filled = ((line, cell) for line, row in enumerate(lines_of(text), 1)
-              if (cell := row.strip()) and not re.fullmatch("sep=.", cell))
+def operations_in(text: str, path: str, language: str) -> list[tuple[int, list[str]]] | None:
+    """The rows of a schedule with their lines, which has a row of heads; None if it isn't one."""
+    heads = {tuple(map(words_of(each), OPERATIONS)) for each in ("en", "de", language)}
+    first = next(filled_lines(text), (0, ""))[1]
+    separator = next((sign for sign in ";,\t" for row in csv.reader([first], delimiter=sign) if (*row,) in heads), None)
+    return None if separator is None else [*islice(records(text, path, separator), 1, None)]
+
+
+def filled_lines(text: str) -> Iterator[tuple[int, str]]:
+    """The lines that aren't empty, with their numbers, without one that names the separator."""
+    return ((line, cell) for line, row in enumerate(lines_of(text), 1)
+            if (cell := row.strip()) and not re.fullmatch("sep=.", cell))
+
+
+def firsts_of(rows: Iterable[tuple[int, list[str]]]) -> Iterator[tuple[int, str]]:
+    """The jobs of a schedule, each with its first line."""
+    seen: set[str] = set()
+    for line, row in rows:
+        if row[0] not in seen:
+            seen.add(row[0])
+            yield line, row[0]
+
+
+def named_jobs(text: str, path: str, numbers: dict[str, int]) -> Iterator[tuple[int, str]]:
+    """Return the names of the jobs with their lines, of a file that isn't a schedule."""
+    filled = filled_lines(text)
     lines = list(islice(filled, 4))
-    separator = next((sign for sign in ";,\t" for row in csv.reader([text for _, text in lines[:1]], delimiter=sign)
-                      if (*row,) in heads), None)
-    if separator is not None:
-        seen: set[str] = set()
-        for line, row in islice(records(text, path, separator), 1, None):
-            if row[0] not in seen:
-                seen.add(row[0])
-                yield line, row[0]
-        return
     is_plan = len(lines) > 2 and all(HEAD.fullmatch(lines[at][1]) for at in (0, 1))
     if is_plan:
         lines = lines[2:]

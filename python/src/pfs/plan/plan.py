@@ -10,6 +10,7 @@ import numpy as np
 
 from pfs.base.names import shown
 from pfs.base.units import CLOCK, amount
+from pfs.plan.dates import check_past, dates_in, with_finished
 from pfs.plan.orders import AFTER_ORDER, FoundOrder, filled
 from pfs.schedules.calendar import Calendar, Clock, begin_of, needed, text_of
 from pfs.schedules.report import JOBS, Report, rows_of, text_table
@@ -37,7 +38,7 @@ class Plan:
     def __init__(self, shop: Instance, found: FoundOrder = FoundOrder([], {}), held: int = 0,
                  calendar: Calendar | None = None, language: str = "en") -> None:
         self.shop, self.calendar, self.language, self.least = shop, calendar, language, 0
-        self.order, self.gone = found
+        self.order, self.gone, self.rows = found
         self.held = self.order[:held]
 
     @cached_property
@@ -165,30 +166,35 @@ class Plan:
         """The plan of what is left at a moment, and the names of the jobs that are finished. Machines are down until
         these moments. The jobs that have begun are held, and the first ones of this order; jobs without a place come
         last. The order is in a file, if there is a path."""
-        shop, order = self.shop, self.order
-        clock = self.clock or Clock(needed(self.calendar, "`now`"), shop)
+        clock = self.clock or Clock(needed(self.calendar, "`now`"), self.shop)
         calendar, now = clock.calendar, begin_of(moment)
         if now < calendar.begin:
             raise ValueError(f"`now`: {now} is before `begin`")
         at = clock.time_at(now)
-        self.check_gone(at, path)
-        new = [job for job in range(shop.jobs) if job not in set(order)]
-        left, held, done = rest_of(shop, order, at, down_until(down, clock, shop, at), new)
+        found = FoundOrder(self.order, self.gone, self.rows)
+        dates = dates_in(self.shop, found, path or "")
+        shop, found = with_finished(self.shop, found, dates, clock, now)
+        check_gone(shop, found, at, path)
+        if dates:
+            check_past(shop, found.jobs, dates, clock, now, path or "")
+        new = [job for job in range(self.shop.jobs) if job not in set(self.order)]
+        left, held, done = rest_of(shop, found.jobs, at, down_until(down, clock, shop, at), new)
         count = left.jobs - len(new)
         # Of the first jobs of the order those that are finished are gone, and machines that are down are among them.
-        held = max(held, min(hold, len(order)) + count - len(order))
+        held = max(held, min(hold, len(self.order)) + count - len(self.order))
         later = calendar._begun_at(calendar.start(clock.worked(at)))
-        return Plan(left, FoundOrder([*range(count)], self.gone), held, later, self.language), done
+        return Plan(left, FoundOrder([*range(count)], found.gone), held, later, self.language), done
 
-    def check_gone(self, at: int, path: str | None) -> None:
-        """A job that the table lacks has delayed those after it, if one of them has begun."""
-        places = np.flatnonzero(begun(*spans_of(self.shop, self.order), at))
-        last = int(places.max(initial=-1))
-        gone = next((name for name, before in self.gone.items() if before <= last), None)
-        if gone is not None:
-            later = self.shop.job_name(self.order[last])
-            raise ValueError(f"{path}: the table has no job {gone!r}, but {later!r} after it has begun: leave jobs "
-                             "that have begun in the table")
+
+def check_gone(shop: Instance, found: FoundOrder, at: int, path: str | None) -> None:
+    """A job that the table lacks has delayed those after it, if one of them has begun."""
+    places = np.flatnonzero(begun(*spans_of(shop, found.jobs), at))
+    last = int(places.max(initial=-1))
+    gone = next((name for name, before in found.gone.items() if before <= last), None)
+    if gone is not None:
+        later = shop.job_name(found.jobs[last])
+        raise ValueError(f"{path}: the table has no job {gone!r}, but {later!r} after it has begun: leave jobs that "
+                         "have begun in the table")
 
 
 def is_provable(search: Search) -> bool:

@@ -28,8 +28,11 @@ DAYS = ("mon", "tue", "wed", "thu", "fri", "sat", "sun")
 STEPS = [step * unit for unit in (1, 60) for step in (1, 2, 5, 10, 15, 30)] + [3_600 * 2**at for at in range(30)]
 BEGIN = re.compile(r"([0-9]{4}-[0-9]{2}-[0-9]{2})(?:[T ]([0-9]{2}:[0-9]{2}(?::[0-9]{2})?))?")
 SHIFT = re.compile(r"([0-9]{1,2}):([0-9]{2})-([0-9]{1,2}):([0-9]{2})")
-# Shifts after the days or dates on which they start.
+# Shifts after the days or dates on which they start, and a date from which on they do, perhaps on some days only.
 NAMED = re.compile(r"\s*(?:([a-z][^:]*)|([0-9]{4}-[^:]*)):(.*)", re.ASCII | re.IGNORECASE)
+SINCE = re.compile(r"([0-9]{4}-[0-9]{2}-[0-9]{2})\s*\.\.\s*([a-z].*)?", re.ASCII | re.IGNORECASE)
+# Before each date.
+EVER = -10**6
 DATE = re.compile(r"[0-9]{4}-[0-9]{2}-[0-9]{2}")
 # How far after the begin dates may have shifts of their own or be closed, and how many breaks a chart may have.
 MOST_DAYS, MOST_BREAKS = 3_660, 400
@@ -37,7 +40,8 @@ UNIT_NEEDED = "write min, h, s or d in brackets into the first cell of the table
 
 # From when to when there is work, in microseconds.
 Span: TypeAlias = tuple[int, int]
-Shifts: TypeAlias = dict[int | str, list[Span]]
+# The shifts of dates, and those from a date on: of a day of the week, or with an empty text of all others.
+Shifts: TypeAlias = dict[int | tuple[int, str], list[Span]]
 
 
 class Calendar:
@@ -58,7 +62,9 @@ class Calendar:
     shifts : str or iterable of str
         The shifts of a working day, such as ``"06:00-14:00"``; several in a list or with commas. A shift may cross
         midnight; it then belongs to the day on which it starts. By default there is work around the clock. Days of the
-        week or dates before the shifts have these only: ``"fri:06:00-12:00"``, ``"2026-12-05:06:00-12:00"``.
+        week or dates before the shifts have these only: ``"fri:06:00-12:00"``, ``"2026-12-05:06:00-12:00"``. From a
+        date on, shifts follow the earlier ones: ``"2026-12-02..:06:00-18:30"`` those of all days without shifts of
+        their own, and ``"2026-12-02..fri:06:00-14:00"`` those of Fridays.
     days : str or iterable of str
         The days on which other shifts start, such as ``"mon-fri"`` or ``"mon,wed,fri"``. By default all days.
     closed : str or iterable of str
@@ -140,6 +146,13 @@ class Calendar:
         """When this working time is over: after a shift its end, and not the start of the next one."""
         return self._within(worked, True)
 
+    def worked_by(self, moment: datetime) -> int:
+        """The working time from the begin up to a moment."""
+        worked, until = 0, (moment - MONDAY) // timedelta(microseconds=1)
+        for start, end in takewhile(lambda span: span[0] < until, self._open()):
+            worked += min(end, until) - start
+        return worked
+
     def _breaks(self, end: int, say: Say) -> Iterator[tuple[int, str]]:
         """Return the working times before `end` at which a shift or a day begins, each with the day if it is the first
         of its date: `Mon 2026-11-30`."""
@@ -203,11 +216,13 @@ class Clock:
 
     def time_at(self, moment: datetime) -> int:
         """The first time, in whole seconds of work, at which the moment has come."""
-        worked, until = 0, (moment - MONDAY) // timedelta(microseconds=1)
-        for start, end in takewhile(lambda span: span[0] < until, self.calendar._open()):
-            worked += min(end, until) - start
         step: int = self.scale * SECOND // math.gcd(self.scale * SECOND, self.tick)
-        return -(-worked * self.scale // (self.tick * step)) * step
+        return -(-self.calendar.worked_by(moment) * self.scale // (self.tick * step)) * step
+
+    def between(self, start: datetime, end: datetime) -> int:
+        """The nearest time to the working time between two moments."""
+        worked = self.calendar.worked_by(end) - self.calendar.worked_by(start)
+        return (2 * worked * self.scale + self.tick) // (2 * self.tick)
 
     def breaks(self, end: int) -> list[tuple[float, str]]:
         """The times up to `end` at which a shift or a day begins, with the day; none if there are too many for a
@@ -295,18 +310,25 @@ def words_of(given: str | Iterable[str], what: str) -> Iterator[str]:
 
 
 def shifts_of(shifts: str | Iterable[str]) -> Shifts:
-    """Parse the shifts of a day, from their starts to their ends, which may be on the next day: those of dates, counted
-    from the Monday, those of days of the week by their names, and those of all other days by an empty text."""
+    """Parse the shifts of a day, from their starts to their ends, which may be on the next day. Dates count from the
+    Monday."""
     found: Shifts = defaultdict(list)
     for text in [shifts] if isinstance(shifts, str) else shifts:
         named = NAMED.fullmatch(text) if isinstance(text, str) else None
         spans = [span_of(word) for word in words_of([named[3] if named else text], "shifts")]
-        days: list[int | str] = [""]
-        if named:
-            days = [DAYS[day] for day in days_of(named[1])] if named[1] else [*dates_of(named[2])]
-        for day in days:
+        for day in days_named(named[1], named[2]) if named else [(EVER, "")]:
             found[day].extend(spans)
     return found
+
+
+def days_named(days: str | None, dates: str) -> list[int | tuple[int, str]]:
+    """The days of the week or the dates that are written before shifts."""
+    since = None if days else SINCE.fullmatch(dates.strip())
+    days = since[2] if since else days
+    if since or days:
+        first = dates_of(since[1])[0] if since else EVER
+        return [(first, DAYS[day]) for day in days_of(days)] if days else [(first, "")]
+    return [*dates_of(dates)]
 
 
 def span_of(word: str) -> Span:
@@ -364,16 +386,19 @@ def starting(day: int, shifts: Shifts, days: Collection[int], closed: Collection
     each day of `days`, or on all days if no day of the week has other shifts."""
     if day in shifts or day in closed:
         return sorted(shifts.get(day, []))
-    others = shifts.get("", [] if not days and any(name in shifts for name in DAYS) else [(0, DAY)])
-    return sorted(shifts.get(DAYS[day % 7], others if not days or day % 7 in days else []))
+    # The last ones count that hold from a date up to this one on.
+    holding = {name: shifts[since, name] for since, name in sorted(key for key in shifts if isinstance(key, tuple))
+               if since <= day}
+    others = holding.get("", [] if not days and holding.keys() - {""} else [(0, DAY)])
+    return sorted(holding.get(DAYS[day % 7], others if not days or day % 7 in days else []))
 
 
 def spans_from(begin: datetime, shifts: Shifts, days: Collection[int],
                closed: Collection[int]) -> tuple[list[Span], int]:
-    """When there is work from the begin on, up to a week after the last date that is closed or has shifts of its own,
-    and the index of the first span of that week."""
+    """When there is work from the begin on, up to a week after the last date that is closed, or has or begins
+    shifts of its own, and the index of the first span of that week."""
     closed, since = set(closed), begin - MONDAY
-    last = max([since.days, *(day for day in shifts if isinstance(day, int)), *closed])
+    last = max([since.days, *(key if isinstance(key, int) else key[0] for key in shifts), *closed])
     if last > since.days + MOST_DAYS:
         raise ValueError(f"{(MONDAY + timedelta(days=last)).date()} is more than ten years after the begin")
     found = [(day * DAY + start, day * DAY + end) for day in range(since.days - 1, last + 8)

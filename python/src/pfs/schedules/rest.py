@@ -61,7 +61,8 @@ def rest_of(shop: Instance, order: Sequence[int], at: int, down: Mapping[int, in
     Each operation starts as early as it can, so one that starts after `at` waits for one that ends after `at`, and the
     times that are left have the ends of the schedule less `at`."""
     starts, ends = spans_of(shop, order)
-    is_done = ends[:, -1] <= at
+    # All that takes time is done, also if the job would still pass machines.
+    is_done = (ends[:, -1] <= at) | (begun(starts, ends, at) & ((ends <= at) | (starts == ends)).all(axis=1))
     last = int(np.flatnonzero(begun(starts, ends, at)).max(initial=-1))
     rows = [Row(place, shop.job_name(order[place]), np.clip(ends[place] - at, 0, ends[place] - starts[place]))
             for place in np.flatnonzero(~is_done).tolist()]
