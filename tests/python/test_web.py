@@ -96,9 +96,9 @@ def read(client: FlaskClient, data: bytes | str, **options: Any) -> Any:
 
 # Who may ask
 
-CALLS = [("POST", "/api/read", {"rows": []}), ("POST", "/api/order", PLAN), ("POST", "/api/plan", PLAN), ("POST", "/api/rest", PLAN),
-         ("POST", "/api/file", PLAN), ("POST", "/api/search", PLAN), ("GET", "/api/search/a", None),
-         ("DELETE", "/api/search/a", None)]
+CALLS = [("POST", "/api/read", {"rows": []}), ("POST", "/api/order", PLAN), ("POST", "/api/plan", PLAN),
+         ("POST", "/api/rest", PLAN), ("POST", "/api/file", PLAN), ("POST", "/api/search", PLAN),
+         ("GET", "/api/search/a", None), ("DELETE", "/api/search/a", None)]
 NO_TOKEN = 403, "The token is missing or wrong: ask for the whole address of the page."
 NO_NAME, NO_PAGE = (421, "The server has another name: see --name."), (403, "Pages of other sites may not ask.")
 STRANGERS = {

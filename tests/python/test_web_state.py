@@ -9,7 +9,7 @@ import random
 import re
 import time
 from collections import Counter
-from collections.abc import Callable, Iterator
+from collections.abc import Callable
 from decimal import Decimal
 from typing import Any, TypeAlias
 
@@ -212,8 +212,11 @@ class Week:
     def keep(self) -> None:
         """The plan that is kept has the table of this moment."""
         title = f"K{self.done['keep']}"
-        self.put("#title", title)
         self.start()
+        self.page.wait(lambda: self.look()["isQuiet"], "all is told")
+        self.mend()
+        self.put("#title", title)
+        self.plan()
         self.page.wait(lambda: self.look()["isQuiet"], "all is told")
         times = times_in(self.look())
         if self.seen["three"] and times:

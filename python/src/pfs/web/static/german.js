@@ -8,8 +8,8 @@ const GERMAN = {
   "Due dates, set-up times, batches, parallel machines and jobs that arrive later are not planned.":
     "Liefertermine, Rüstzeiten, Lose, parallele Maschinen und spätere Ankünfte werden nicht geplant.",
   "1 Table": "1 Tabelle", "2 Plan": "2 Planen", "3 Result": "3 Ergebnis",
-  "Drop a table here, choose a file (.xlsx, .csv), or paste cells (Ctrl+V). A row is a job, a column is a machine. What \
-was saved here (.json) opens too.":
+  "Drop a table here, choose a file (.xlsx, .csv), or paste cells (Ctrl+V). A row is a job, a column is a machine. \
+What was saved here (.json) opens too.":
     "Tabelle hierher ziehen, Datei wählen (.xlsx, .csv) oder Zellen einfügen (Strg+V). Eine Zeile ist ein Auftrag, "
     + "eine Spalte eine Maschine. Hier Gespeichertes (.json) öffnet sich auch.",
   "Sheet": "Blatt", "Unit of the times": "Einheit der Zeiten", "as in the table": "wie in der Tabelle",
