@@ -70,6 +70,23 @@ def test_what_another_plan_says_of_its_end(tmp_path: pathlib.Path) -> None:
     assert "says" not in ended([*words, "--compare", "names"], tmp_path)[2]
 
 
+@pytest.mark.parametrize("name", ["times.csv", "times.xlsx"])
+def test_csv_for_a_spreadsheet_in_german(tmp_path: pathlib.Path, name: str) -> None:
+    """With semicolons, decimal commas and a byte order mark, whatever the table has."""
+    (tmp_path / "times.csv").write_text("job [h],saw\na,1.5\nb,2\n")
+    book_of(tmp_path / "times.xlsx", ("job [h]", "saw"), ("a", 1.5), ("b", 2))
+    (tmp_path / "order").write_text("b\na\n")
+    words = ["plan", name, "--order", "order", "--schedule", "plan.csv", "--rest", "rest.csv"]
+    assert ended(words, tmp_path)[0] == 0
+    assert (tmp_path / "plan.csv").read_text("utf-8").startswith("job,machine,start,end\nb,saw,0.0,2.0\n")
+    assert ended([*words, "--language", "de"], tmp_path)[0] == 0
+    assert (tmp_path / "plan.csv").read_bytes() == (
+        "\ufeffAuftrag;Maschine;Beginn;Ende\nb;saw;0,0;2,0\na;saw;2,0;3,5\n").encode()
+    assert (tmp_path / "rest.csv").read_bytes() == "\ufeffjob [h];saw\na;1,5\nb;2,0\n".encode()
+    again = ["plan", "rest.csv", "--order", "plan.csv"]
+    assert "makespan 3.5 h" in ended(again, tmp_path)[1]
+
+
 # Options on the sheet `pfs` of a workbook
 
 ROWS = (("job [min]", "saw", "drill"), ("table", 300, 200), ("chair", 250, 400))

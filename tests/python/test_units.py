@@ -582,3 +582,30 @@ def test_other_faults_of_pieces(tmp_path: pathlib.Path) -> None:
     text = PIECES.format("").replace("A;10;15", "A;10;")
     assert "cell C2, column 'set-up': the time is missing" in pieces(
         tmp_path, "--quantity", "qty", "--setup", "set-up", text=text)[3]
+
+
+def test_jobs_that_are_not_in_the_first_column(tmp_path: pathlib.Path) -> None:
+    """Titles above and columns to the left are left out, and one of these may be a machine that is named."""
+    text = "Week 49;;;\nplant;site;order [min];saw;drill\n1000;B;FA-1;3;2\n1000;B;FA-2;1;5\n"
+    (tmp_path / "times.csv").write_text(text)
+    for name in ("order", "order [min]", "ORDER"):
+        status, printed, got = ended(["plan", "times.csv", "--jobs", name, "--rounds", "0"], tmp_path)
+        assert (status, got) == (0, "times.csv: columns that are left out: plant, site\n")
+        assert "makespan 8 min" in printed and "\n1 FA-2\n2 FA-1\n" in printed
+    shop = pfs.read_csv(tmp_path / "times.csv", jobs="order", machines=["drill"])
+    assert (shop.job_names, shop.machine_names, shop.unit) == (("FA-1", "FA-2"), ("drill",), "min")
+    assert shop.times.tolist() == [[2], [5]]
+    for words, said in ((["--jobs", "none"], "line 1, no column is named 'none' (--jobs)"),
+                        (["--jobs", "plant"], "cell A4: the job '1000' is in A3 too"),
+                        (["--jobs", "order", "--machines", "lathe"], "no column is named 'lathe'")):
+        status, _, got = ended(["plan", "times.csv", *words], tmp_path)
+        assert status == 2 and said in got, got
+    (tmp_path / "times.csv").write_text("order [h];order;qty;qty;saw\na;1;2;3;4\n")
+    assert pfs.read_csv(tmp_path / "times.csv", jobs="order", machines=["saw"]).job_names == ("1",), "the whole name"
+    with pytest.raises(pfs.TableFault) as fault:
+        pfs.read_csv(tmp_path / "times.csv", jobs="ORDER", machines=["saw"], quantity="qty")
+    assert [(each.column, each.text.partition(":")[0]) for each in (fault.value, *fault.value.others)] == [
+        (2, "the column 'ORDER' may be this column or A1"), (4, "the column 'qty' may be this column or C1")]
+    (tmp_path / "times.csv").write_text(text.replace("FA-2;1", ";x"))
+    got = ended(["plan", "times.csv", "--jobs", "order"], tmp_path)[2]
+    assert "cell C4: the job has no name" in got and "cell D4, column 'saw': 'x' isn't a time" in got

@@ -10,6 +10,7 @@ WORDS = {
     "allow_totals": ("--allow-totals", "the tick for sums, above the table"),
     "unit": ("--unit", "Unit of the times, above the table"),
     "machines": ("--machines", "the ticks above the columns"),
+    "jobs": ("--jobs", "the column of the jobs"),
     "quantity": ("--quantity", "the column with the quantities"),
     "setup": ("--setup", "the columns with set-ups"),
     "sheet": ("--sheet", "Sheet, above the table"),

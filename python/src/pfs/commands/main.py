@@ -167,7 +167,7 @@ def plan_command(given: argparse.Namespace) -> int:
                   given.rest)
     words_of(given.language)
     table = table_of(given.table, given.unit, DECIMAL_SIGNS.get(given.decimal), given.allow_totals,
-                     names_in(given.machines), given.sheet, given.decimals, given.quantity, given.setup)
+                     names_in(given.machines), given.sheet, given.decimals, given.quantity, given.setup, given.jobs)
     if table.note:
         written(sys.stderr, f"pfs: {as_options(shown(table.note))}\n")
     if calendar is not None:
@@ -202,7 +202,9 @@ def names_in(text: str | None) -> list[str]:
 def outputs_of(given: argparse.Namespace, plan: Plan, table: Table,
                others: list[FoundOrder]) -> list[Callable[[], object]]:
     """What a plan writes, one after the other."""
-    style = table.delimiter, table.has_mark or table.delimiter == ";"
+    # As the tables that a spreadsheet in German saves and opens.
+    delimiter = ";" if given.language == "de" else table.delimiter
+    style = delimiter, table.has_mark or delimiter == ";"
     return [
         lambda: printed(plan.text(given.report)),
         *(partial(plan.write, path, *style) for path in given.schedule),
@@ -390,6 +392,8 @@ def add_plan_words(plan: argparse.ArgumentParser) -> None:
     add("--machines", metavar="NAMES",
         help="the columns that are machines, by their names, with commas, in the order of the machines; other columns "
         "are skipped. A name with a comma is in double quotes")
+    add("--jobs", metavar="COLUMN", help="the column with the names of the jobs, else the first one; machines are the "
+        "columns after it, unless --machines names them")
     add("--quantity", metavar="COLUMN",
         help="the column with the pieces of each job: the times of the table are those of a piece")
     add("--setup", metavar="[MACHINE=]COLUMN", action="append", default=[],

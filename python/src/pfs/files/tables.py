@@ -208,7 +208,8 @@ class Rows:
 
 def read_csv(source: str | os.PathLike[str], unit: str = "", *, decimal: str | None = None,
              allow_totals: bool = False, machines: Iterable[str] | None = None, sheet: str | None = None,
-             decimals: int | None = None, quantity: str | None = None, setup: Iterable[str] = ()) -> Instance:
+             decimals: int | None = None, quantity: str | None = None, setup: Iterable[str] = (),
+             jobs: str | None = None) -> Instance:
     """Read a table of times from a CSV file or a workbook: a row for each job, a column for each machine.
 
     Parameters
@@ -245,6 +246,9 @@ def read_csv(source: str | os.PathLike[str], unit: str = "", *, decimal: str | N
     setup : iterable of str
         The names of columns with set-ups, which are added to the times of a job that aren't 0: on all machines, or on
         one, as in ``saw=set-up``.
+    jobs : str, optional
+        The name of the column with the names of the jobs, if it isn't the first one. Machines are then the columns
+        after it, unless they are named.
 
     Returns
     -------
@@ -278,7 +282,7 @@ def read_csv(source: str | os.PathLike[str], unit: str = "", *, decimal: str | N
     table,saw,2.0,5.0
     table,drill,7.0,9.5
     """
-    found = table_of(source, unit, decimal, allow_totals, machines, sheet, decimals, quantity, setup)
+    found = table_of(source, unit, decimal, allow_totals, machines, sheet, decimals, quantity, setup, jobs)
     if found.note:
         warnings.warn(found.note, stacklevel=2)
     return found.shop
@@ -286,7 +290,7 @@ def read_csv(source: str | os.PathLike[str], unit: str = "", *, decimal: str | N
 
 def table_of(source: str | os.PathLike[str], unit: str, decimal: str | None, allow_totals: bool,
              machines: Iterable[str] | None = None, sheet: str | None = None, most_decimals: int | None = None,
-             quantity: str | None = None, setup: Iterable[str] = ()) -> Table:
+             quantity: str | None = None, setup: Iterable[str] = (), jobs: str | None = None) -> Table:
     """Read a table. The parameters are those of `read_csv`."""
     path = os.fspath(source)
     content, faults, note, texts = content_of(path, "table"), list[TableFault](), "", None
@@ -298,7 +302,7 @@ def table_of(source: str | os.PathLike[str], unit: str, decimal: str | None, all
             raise ValueError(f"{path} isn't a workbook (.xlsx), and has no sheet {sheet!r}")
     delimiter = delimiter_of(text)
     rows = Rows(path, lambda: records(text, path, delimiter), delimiter, texts, bool(machines), faults)
-    shop, rounded = shop_in(rows, unit, decimal, allow_totals, machines, most_decimals, quantity, setup)
+    shop, rounded = shop_in(rows, unit, decimal, allow_totals, machines, most_decimals, quantity, setup, jobs)
     return Table(shop, delimiter, content.startswith(MARKS), note, rounded, tuple(rows.left_out))
 
 
@@ -313,14 +317,15 @@ def table_in(records: Records, path: str, delimiter: str, unit: str, decimal: st
 
 
 def shop_in(rows: Rows, unit: str, decimal: str | None, allow_totals: bool, machines: Iterable[str] | None,
-            most_decimals: int | None, quantity: str | None = None, setup: Iterable[str] = ()) -> tuple[Instance, str]:
+            most_decimals: int | None, quantity: str | None = None, setup: Iterable[str] = (),
+            jobs: str | None = None) -> tuple[Instance, str]:
     """Read a table from its rows. Return it, and what was rounded."""
     most_decimals = None if most_decimals is None else checked_int(most_decimals, "decimals", 0, 9)
     if decimal not in (None, ".", ","):
         raise ValueError(f"decimal must be '.' or ',', not {decimal!r}")
     names, setups = [*(machines or ())], [*setup]
     rows.is_chosen = bool(names)
-    table = rows_of(rows, names, quantity, setups)
+    table = rows_of(rows, names, quantity, setups, jobs)
     if not allow_totals:
         leave_out_totals(table)
     heads, found = without_units(table, unit)
@@ -422,40 +427,49 @@ def records(text: str, path: str, delimiter: str) -> Iterator[tuple[int, list[st
         raise TableFault(path, reader.line_num, 0, f"isn't a row of a table: {error}") from None
 
 
-def rows_of(table: Rows, machines: list[str], quantity: str | None, setups: list[str]) -> Rows:
-    """Return the table: the rows from the first one on that has more than a first cell, or that names these machines.
-    Those above it are titles."""
+def rows_of(table: Rows, machines: list[str], quantity: str | None, setups: list[str], jobs: str | None) -> Rows:
+    """Return the table: the rows from the first one on that has more than a first cell, or that names these machines
+    and the column of the jobs. Those above it are titles."""
     path = table.path
     head: list[str] = []
     titles: list[Cell] = []
     used: set[int] = set()
+    column = 1
     for line, row in table.records():
         if len(titles) + len(table.jobs) == MOST_ROWS:
             raise TableFault(path, line, 0, f"the table has more than {MOST_ROWS:,} rows")
-        first = Cell(line, 1, row[0])
-        if not table.jobs and is_head(row, head if used else None, machines):
-            head, table.corner, used = row, first, {1}
+        if jobs is not None and not used:
+            column = next(iter(columns_of(["", *row], jobs)), 1) - 1
+        first = Cell(line, column, row[column - 1] if 0 < column <= len(row) else "")
+        if not table.jobs and column and is_head(row, head if used else None, machines, jobs):
+            head, table.corner, used = row, first, {column}
         else:
             (table.jobs if used else titles).append(first)
         if used:
             used.update(column for column, cell in enumerate(row, 1) if cell)
     if not titles and not used:
         raise TableFault(path, 1, 0, "the table is empty")
+    if not used and jobs is not None and not any(columns_of(["", *row], jobs) for _, row in table.records()):
+        raise TableFault(path, titles[0].line, 0, f"no column is named {jobs!r} (`jobs`)")
     if not used:
         reject_columns(table, titles, machines)
     line = table.corner.line
+    for other in columns_of(["", *head], jobs)[1:] if jobs is not None else []:
+        table.report(Cell(line, other - 1, ""), f"the column {jobs!r} may be this column or {table.corner.name}: give "
+                     "them different names, or write the whole name (`jobs`)")
     heads = {column: Cell(line, column, head[column - 1] if column <= len(head) else "") for column in sorted(used)}
     named = [machine_and_column(table, text) for text in setups]
     table.setups = [named_column(table, name, "setup") for _, name in named]
     table.quantity = None if quantity is None else named_column(table, quantity, "quantity")
     own = {cell.column for cell in [*table.setups, *filter(None, [table.quantity])]}
-    others = [cell for column, cell in heads.items() if column > 1 and column not in own]
-    table.machines = [heads[the_column(table, head, name)] for name in machines] or others
+    others = [cell for cell in heads.values() if cell.column not in own and cell != table.corner]
+    table.machines = [heads[the_column(table, head, name)] for name in machines] or [
+        cell for cell in others if cell.column > table.corner.column]
     table.left_out = [name for cell in others if cell not in table.machines and (name := name_of_column(table, cell))]
     table.set_up = [[cell for cell in table.machines if not name or cell.column == the_column(table, head, name)]
                     for name, _ in named]
     check_pieces(table)
-    if not machines:
+    if not machines and jobs is None:
         check_titles(table, titles)
     return table
 
@@ -483,7 +497,7 @@ def named_column(table: Rows, name: str, what: str) -> Cell:
         others = ", ".join(filter(None, head[1:])) or "no other names"
         raise TableFault(table.path, table.corner.line, 0, f"no column is named {name!r}: this row has {others} "
                                                            f"(`{what}`)")
-    return Cell(table.corner.line, the_column(table, row, name), name)
+    return Cell(table.corner.line, the_column(table, row, name, what), name)
 
 
 def name_of_column(table: Rows, head: Cell) -> str:
@@ -504,11 +518,14 @@ def check_pieces(table: Rows) -> None:
                                "quantities (`quantity`), or leave these words out")
 
 
-def is_head(row: Sequence[str], above: Sequence[str] | None, machines: list[str]) -> bool:
-    """Whether a row names these machines, or else is the first one with more than a first cell. If the row above it was
-    taken for that, it was a title if it names fewer machines and this row has names only."""
+def is_head(row: Sequence[str], above: Sequence[str] | None, machines: list[str], jobs: str | None) -> bool:
+    """Whether a row names these machines and the column of the jobs, or else is the first one with more than a first
+    cell. If the row above it was taken for that, it was a title if it names fewer machines and this row has names
+    only."""
     if above is None:
-        return all(columns_of(row, name) for name in machines) if machines else any(row[1:])
+        return all(columns_of(row, name) for name in machines) if machines or jobs is not None else any(row[1:])
+    if jobs is not None:
+        return False
     names, others = ([name for name in each[1:] if name] for each in (row, above))
     return not machines and len(names) > len(others) and not any(map(is_time, names)) and is_above_names(row[0] or "?")
 
@@ -522,13 +539,14 @@ def columns_of(head: Sequence[str], name: str) -> list[int]:
     return found if wanted else []
 
 
-def the_column(table: Rows, head: Sequence[str], name: str) -> int:
+def the_column(table: Rows, head: Sequence[str], name: str, what: str = "machines") -> int:
     """Return the column with this name. Several ones are reported."""
     column, *others = columns_of(head, name)
     for other in others:
-        table.report(Cell(table.corner.line, other, ""), f"the machine {name!r} may be this column or "
+        kind = "machine" if what == "machines" else "column"
+        table.report(Cell(table.corner.line, other, ""), f"the {kind} {name!r} may be this column or "
                      f"{cell_name(table.corner.line, column)}: give them different names, or write the whole name "
-                     "(`machines`)")
+                     f"(`{what}`)")
     return column
 
 
