@@ -123,6 +123,34 @@ C_FILES = sorted(str(path.relative_to(TOP)) for folder in ("lib", "examples", "b
                  for path in (TOP / folder).iterdir() if path.suffix in (".c", ".cpp", ".h", ".hpp"))
 
 
+def text_of(node: ast.JoinedStr | ast.Constant) -> str:
+    """A text of Python, with a zero byte in the place of each value."""
+    parts = node.values if isinstance(node, ast.JoinedStr) else [node]
+    return "".join(str(part.value) if isinstance(part, ast.Constant) else "\0" for part in parts)
+
+
+def test_each_value_of_a_fault_is_in_an_expected_text() -> None:
+    """With some letters of the message before or after it, if there are as many. Commands name an option --so, and the
+    package `so`."""
+    expected = "\n".join({re.sub(r"\\(?=[^\w\s])", "", text_of(node)) for path in (TOP / "tests").rglob("*.py")
+                          for node in ast.walk(ast.parse(path.read_text()))
+                          if isinstance(node, ast.JoinedStr) or isinstance(node, ast.Constant) and node.value != ""
+                          and isinstance(node.value, str)})
+    expected += re.sub(r"--(\w+): ", r"`\1`: ", expected)
+    messages = [(path, text_of(node)) for path in PACKAGE.rglob("*.py") for fault in
+                ast.walk(ast.parse(path.read_text())) if isinstance(fault, ast.Raise) and fault.exc
+                for node in ast.walk(fault.exc) if isinstance(node, ast.JoinedStr)]
+    missing = []
+    for path, message in messages:
+        parts = message.split("\0")
+        for at, (before, after) in enumerate(zip(parts, parts[1:])):
+            first, last = re.escape(before[-7:]), re.escape(after[:7])
+            ways = [rf"{first}(?!\.\*)[^\n]+?(?:{last}|$)"] * (len(before) > 2) + [rf"^.*\S{last}"] * (len(after) > 2)
+            if ways and not any(re.search(way, expected, re.MULTILINE) for way in ways):
+                missing.append((path.name, at, message))
+    assert len(messages) > 200 and missing == []
+
+
 @pytest.mark.parametrize("path", C_FILES)
 def test_clang_format_changes_nothing(path: str) -> None:
     assert_silent([tool("clang-format"), "--dry-run", "--Werror", "--style=file", path])
