@@ -86,7 +86,8 @@ mutants: out/lines
 out/lines: $(PROGRAM) $(LIBRARY) $(shell find python/src/pfs tests -name '*.py')
 	mkdir -p out
 	COVERAGE_FILE="$(CURDIR)/$@" $(PYTEST) -n auto -q --cov="$(CURDIR)/python/src/pfs" --cov-branch --cov-context=test \
-	    --junitxml=out/tests.xml --ignore=tests/python/test_web_page.py tests/python || [ $$? = 1 ]  # some failed
+	    --junitxml=out/tests.xml --ignore=tests/python/test_web_page.py --ignore=tests/python/test_web_state.py \
+	    tests/python || [ $$? = 1 ]  # some failed
 
 $(PROGRAM): crates.txt $(shell find crates \( -name out -o -name must-fail -o -name pfs_c -o -name pfs_calls \
     -o -name pfs_tests \) -prune -o -type f -print)

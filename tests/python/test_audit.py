@@ -159,11 +159,12 @@ def test_names(tmp_path: pathlib.Path) -> None:
     blocks = [pfs.taillard(1), pfs.Instance(damaged, seed=pfs.taillard(2).seed)]
     (tmp_path / "a" / "tai20_5").write_text("".join(shop.to_text() for shop in blocks))
     rows = [{**rows_of("2 1 3")[0], "instance": name, "block": block}
-            for name, block in (("CAR1", ""), ("two:1", float("nan")), ("best", None), ("x/two.TXT", 1.0))]
+            for name, block in (("CAR1", ""), ("two:1", float("nan")), ("best", None), ("x/two.TXT", 1.0),
+                                ("C:\\data\\Best.mat", ""))]
     order = list(range(1, 21))
     rows += [{"instance": name, "makespan": makespan(shop, range(20)), "order": order, "block": ""} for name, shop in
              (("ta001", blocks[0]), ("tai20_5:2", blocks[1]), ("ta002", pfs.taillard(2)))]
-    assert [each.valid for each in pfs.audit(rows, tmp_path)] == [True] * 7
+    assert [each.valid for each in pfs.audit(rows, tmp_path)] == [True] * 8
     # Taillard's instance has its best known makespan, also where the file has none.
     pfs.Instance(pfs.taillard(1).times, seed=pfs.taillard(1).seed).write(tmp_path / "plain")
     [found] = pfs.audit([{"instance": "plain", "makespan": 1278, "order": order}], tmp_path)
@@ -177,6 +178,22 @@ def test_names(tmp_path: pathlib.Path) -> None:
     (tmp_path / "best.txt").write_text("3 2\n3 2\n2 5\n4 2\n")
     with pytest.raises(ValueError, match="'best' is the name of 2 different instances: best.mat, best.txt"):
         pfs.audit(rows[2:3], tmp_path, strict=True)
+
+
+@pytest.mark.parametrize("fault", [PermissionError(13, "Permission denied"), pfs.TableFault("b", 1, 0, "no times")])
+def test_one_file_that_cannot_be_read_does_not_end_the_audit_of_its_folder(fault: Exception, tmp_path: pathlib.Path,
+                                                                         monkeypatch: pytest.MonkeyPatch) -> None:
+    def read(path: pathlib.Path, layout: str) -> list[pfs.Instance]:
+        if path.name == "b":
+            raise fault
+        return pfs.read_all(path, layout)
+
+    monkeypatch.setattr("pfs.audits.shelf.read_all", read)
+    monkeypatch.setattr("pfs.audits.shelf.read", read)
+    for name in "abc":
+        SMALL.write(tmp_path / name)
+    found = pfs.audit([rows_of("2 1 3")[0] | {"instance": name} for name in "abc"], tmp_path)
+    assert [each.valid for each in found] == [True, False, True] and str(fault) in found[1].why
 
 
 def test_the_command(tmp_path: pathlib.Path, monkeypatch: pytest.MonkeyPatch,

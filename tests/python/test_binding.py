@@ -191,6 +191,32 @@ def test_threads_share_no_result() -> None:
         assert all(threads.map(many, range(8)))
 
 
+RESULTS: dict[str, Callable[[pfs.Instance], object]] = {
+    "makespan": lambda shop: shop.makespan(range(12)), "best_place": lambda shop: shop.best_place(range(11), 11),
+    "ties": lambda shop: shop.best_place(range(11), 11, ties="idle"), "bound": lambda shop: shop.bound(),
+    "places": lambda shop: shop.places(range(11), 11).tolist(), "makespans": lambda shop: [
+        *shop.makespans([[*range(12)], [*range(11, -1, -1)]])], "insert_all": lambda shop: [
+        *shop.insert_all([0, 1], [2, 3]).jobs],
+    "schedule": lambda shop: shop.schedule(range(12)).ends.tolist(),
+    "solve": lambda shop: shop.solve(20).order.tolist(), "local_search": lambda shop: [*shop.local_search(range(12)).jobs]}
+
+
+@pytest.mark.parametrize("call", RESULTS.values(), ids=RESULTS)
+def test_what_is_given_back_is_used_at_once_by_another_call(call: Callable[[pfs.Instance], object]) -> None:
+    """As that of another thread may. The results of the first call are read before."""
+    shop, due = pfs.generate(12, 4, 1), call(pfs.generate(12, 4, 1))
+    others = [lambda: shop.makespan([3]), lambda: shop.best_place([5, 6, 7], 2), lambda: shop.places(range(11), 11)]
+
+    class Given(list[Any]):
+        def append(self, prepared: Any) -> None:
+            super().append(prepared)
+            while others:
+                others.pop()()
+
+    shop._prepared = Given()
+    assert call(shop) == due and others == []
+
+
 def test_threads_on_one_instance_do_not_wait_for_each_other(counted: Counts,
                                                             monkeypatch: pytest.MonkeyPatch) -> None:
     """A call returns while another one is made, for which it prepares the instance once more."""

@@ -167,6 +167,7 @@ def test_a_page_lists_so_many_operations() -> None:
 def test_jupyter_shows_the_chart(monkeypatch: pytest.MonkeyPatch) -> None:
     text = a_schedule()._repr_svg_()
     assert text is not None and "<svg" in text and "critical" in text and "bound" in text
+    assert "S\u00e4ge" in str(pfs.Instance([[1]], machine_names=["S\u00e4ge"]).schedule([0])._repr_svg_())
     assert pfs.generate(100, 20, 1).schedule(range(100))._repr_svg_(), "the largest picture"
     assert pfs.generate(2001, 1, 1).schedule(range(2001))._repr_svg_() is None, "a very large picture"
     modules: dict[str, Any] = sys.modules

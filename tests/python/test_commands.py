@@ -250,6 +250,24 @@ def test_a_lock_whose_file_another_search_removes_is_taken_again(folder: pathlib
     os.close(got)
 
 
+def test_a_search_that_begins_while_another_ends_has_the_state_alone(tmp_path: pathlib.Path,
+                                                                     monkeypatch: pytest.MonkeyPatch) -> None:
+    """The second one begins as soon as the lock of the first is closed."""
+    path, shop, close = str(tmp_path / "state"), pfs.generate(5, 2, 1), os.close
+    first, second = (_state.State(path, shop, _search.Search(shop, None, 0, None, 0, 0)) for _ in range(2))
+
+    def closed(descriptor: int) -> None:
+        close(descriptor)
+        monkeypatch.undo()
+        second.__enter__()
+
+    with first:
+        monkeypatch.setattr("os.close", closed)
+    with pytest.raises(_state.StateInUse):
+        _state.lock_of(path)
+    second.__exit__()
+
+
 def test_a_link_in_the_place_of_the_lock_is_not_followed(folder: pathlib.Path) -> None:
     (folder / "precious").write_text("kept")
     (folder / "state.lock").symlink_to("precious")
@@ -816,7 +834,7 @@ def test_what_is_rejected_before_the_search(folder: pathlib.Path, monkeypatch: p
 def test_messages_name_options_and_controls_that_there_are() -> None:
     options, controls = zip(*_wording.WORDS.values())
     assert {option.split()[0] for option in options} <= _commands.plan_words()._option_string_actions.keys()
-    page = "".join((TOP / "python/src/pfs/web/static" / name).read_text() for name in ("page.html", "page.js"))
+    page = "".join((TOP / "python/src/pfs/web/static" / name).read_text() for name in ("page.html", "result.js"))
     for name in (control.removesuffix(", above the table").strip('"') for control in controls):
         assert re.search(rf'[>"]{name}[ <,"]', page) or name in ("the tick for sums", "the ticks above the columns")
 

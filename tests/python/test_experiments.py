@@ -537,6 +537,10 @@ def test_a_shorter_order_that_is_proved_is_kept(experiment: Experiment) -> None:
         (experiment.runs / "proofs.json").write_text(damaged)
         for name in ("prove", "status"):
             assert_refused(experiment.script(name, "out.csv"), "out.csv.d/proofs.json is damaged: delete it, and")
+    (experiment.folder / "out.csv").write_text(text)
+    (experiment.runs / "proofs.json").write_text('{"shops/six": {"bound": 5000, "makespan": 6000, "order": ""}}')
+    assert_refused(experiment.script("prove", "out.csv"), "out.csv.d/proofs.json: the bound 5000 of shops/six is above "
+                   f"the makespan {least} of an order: delete it, and prove again")
 
 
 def test_a_csv_that_pandas_wrote_is_the_same(experiment: Experiment) -> None:

@@ -326,7 +326,7 @@ def test_a_second_interruption_of_a_search_keeps_its_best_order(monkeypatch: pyt
     ({"time_limit": float("nan")}, ValueError, "time_limit must be 0 or more seconds, not nan"),
     ({"time_limit": -10**400}, ValueError, "time_limit must be 0 or more seconds, not -inf"),
     ({"time_limit": "1"}, TypeError, "time_limit must be a number of seconds, not '1'"),
-    ({"progress": 3}, TypeError, "progress must be callable"),
+    ({"progress": 3}, TypeError, "progress must be callable, or a progress bar with `update`, not 3$"),
     ({"target": -1}, ValueError, "target must be from 0 to [0-9,]+, not -1"),
     ({"stop": True}, TypeError, "stop must be an event with `is_set`, such as threading.Event, not True"),
     ({"history": 1}, TypeError, "history must be True or False, not 1"),

@@ -117,14 +117,14 @@ def test_what_is_not_pfs(program: str | None, said: str) -> None:
 
 
 @pytest.mark.parametrize(("text", "said"), [
-    ("a\n", "no rows"), ("a\n1,2\n", "a row has more cells than the first line"), ("b\n1\n", "no column a"),
-    ("a,a\n1,2\n", "two columns are named 'a'")])
+    ("a\n", "runs.csv: no rows"), ("a\n1,2\n", "runs.csv: a row has more cells than the first line"),
+    ("b\n1\n", "runs.csv: no column a"), ("a,a\n1,2\n", "runs.csv: two columns are named 'a'")])
 def test_a_csv_without_the_rows_that_are_needed(tmp_path: pathlib.Path, text: str, said: str) -> None:
     path = tmp_path / "runs.csv"
     path.write_text(text)
     with pytest.raises(ExperimentError) as caught:
         plan.rows_of(path, ["a"])
-    assert str(caught.value) == f"{path}: {said}"
+    assert str(caught.value) == f"{tmp_path}/{said}"
 
 
 IN_ASCII = """

@@ -83,7 +83,7 @@ INSERTIONS: list[tuple[Any, type[Exception], str]] = [
 REJECTED: dict[Callable[[Any], object], list[tuple[Any, type[Exception], str]]] = {
     pfs.Instance: [
         ([3, 2], ValueError, r"a row for each job and a column for each machine, not the shape \(2,\)"),
-        ([[1, 2], [3]], ValueError, "times can't be converted to an array"),
+        ([[1, 2], [3]], ValueError, "times can't be converted to an array: setting an array element with a sequence"),
         (np.zeros((0, 2)), ValueError, "times has 0 jobs and 2 machines"),
         (np.zeros((2, 0)), ValueError, "times has 2 jobs and 0 machines"),
         (np.zeros((5001, 1)), ValueError, "times has 5,001 jobs and 1 machines"),

@@ -2,6 +2,7 @@
 tests/python/test_web_server.py starts it, and test_web_page.py looks at the page."""
 import base64
 import copy
+import datetime
 import functools
 import hashlib
 import io
@@ -14,9 +15,12 @@ import random
 import re
 import resource
 import struct
+import sys
 import tempfile
 import time
+import weakref
 import zipfile
+from collections import Counter
 from collections.abc import Callable, Iterator
 from typing import Any
 from unittest import mock
@@ -26,11 +30,12 @@ import pytest
 from hypothesis import given
 from hypothesis import strategies as st
 from support.needs import require_module
-from support.tools import wait_until
+from support.tools import run_main, wait_until
 
 for module in ("flask", "waitress", "openpyxl"):
     require_module(module)
 from flask.testing import FlaskClient
+from pfs.commands.main import main, plan_words
 from pfs.files import tables as _tables
 from pfs.web import app, apart, plans, searches
 from werkzeug.test import TestResponse
@@ -91,10 +96,10 @@ def read(client: FlaskClient, data: bytes | str, **options: Any) -> Any:
 
 # Who may ask
 
-CALLS = [("POST", "/api/read", {"rows": []}), ("POST", "/api/plan", PLAN), ("POST", "/api/rest", PLAN),
-         ("POST", "/api/file", PLAN), ("POST", "/api/search", PLAN), ("GET", "/api/search/a", None),
-         ("DELETE", "/api/search/a", None)]
-NO_TOKEN = 403, "The token is missing or wrong: open the address that the server printed."
+CALLS = [("POST", "/api/read", {"rows": []}), ("POST", "/api/order", PLAN), ("POST", "/api/plan", PLAN),
+         ("POST", "/api/rest", PLAN), ("POST", "/api/file", PLAN), ("POST", "/api/search", PLAN),
+         ("GET", "/api/search/a", None), ("DELETE", "/api/search/a", None)]
+NO_TOKEN = 403, "The token is missing or wrong: ask for the whole address of the page."
 NO_NAME, NO_PAGE = (421, "The server has another name: see --name."), (403, "Pages of other sites may not ask.")
 STRANGERS = {
     "no token": ({"X_Pfs_Token": "none"}, NO_TOKEN), "another token": ({"X_Pfs_Token": TOKEN[:-1]}, NO_TOKEN),
@@ -125,6 +130,15 @@ def test_a_stranger_computes_reads_and_ends_nothing(who: str, call: tuple[str, s
     assert (got.status_code, got.json) == (due[0], {"error": due[1]})
 
 
+def test_what_is_refused_is_in_the_log(client: FlaskClient, caplog: pytest.LogCaptureFixture) -> None:
+    """Without the token, the name of a search, and lines of its own."""
+    caplog.set_level("INFO")
+    asked(client, f"/api/search/{TOKEN}", method="GET", X_Pfs_Token="wrong")
+    asked(client, "/api/read%0Aa", {}, Host="evil.example")
+    asked(client, "/api/read", {})
+    assert caplog.messages == ["refused: 403 GET /api/search 127.0.0.1", r"refused: 421 POST /api/read\na 127.0.0.1"]
+
+
 def test_the_own_page_may_ask(client: FlaskClient) -> None:
     """Also where a proxy for TLS passes the name on."""
     for host, origin in ((HOST, f"http://{HOST}"), (HOST.upper(), f"http://{HOST}"),
@@ -134,7 +148,7 @@ def test_the_own_page_may_ask(client: FlaskClient) -> None:
     assert asked(client, "/", method="GET", Sec_Fetch_Site="cross-site", X_Pfs_Token="").status_code == 200
 
 
-@pytest.mark.parametrize("path", ["/", "/static/page.js", "/static/lists.js", "/static/german.js", "/static/page.css",
+@pytest.mark.parametrize("path", ["/", "/static/page.js", "/static/document.js", "/static/page.css",
                                   "/api/search/a", "/nothing"])
 def test_each_answer_forbids_what_the_page_does_not_need(client: FlaskClient, path: str) -> None:
     got = asked(client, path, method="GET")
@@ -164,7 +178,7 @@ def test_the_page_asks_for_nothing_from_elsewhere_and_makes_no_html_of_texts() -
         assert re.findall(r"(?:https?:)?//(?!/)[\w.-]+\.\w", re.sub(r"^\s*// .*$", "", text, flags=re.MULTILINE)) == []
         never = r"innerHTML|outerHTML|insertAdjacent|document\.write|\beval\b|new Function|\bon\w+=[\"']"
         assert re.findall(never, text) == []
-        assert re.findall(r"srcdoc = (.*);", text) == ["now.chart"] * (path.name == "page.js"), "the chart has a policy"
+        assert re.findall(r"srcdoc = (.*);", text) == ["told.chart"] * (path.name == "result.js"), "it has a policy"
 
 
 # What isn't a request
@@ -247,7 +261,8 @@ OPTIONS: dict[str, Any] = {"unit": "h", "decimal": ",", "totals": True, "machine
 REQUESTS: list[tuple[str, dict[str, Any]]] = [
     ("/api/read", {"rows": [[1, ["job", "saw"]], [2, ["a", "1"]]], "options": OPTIONS}),
     ("/api/read", {"content": content(TABLE), "name": "x", "options": {"unit": "h", "sheet": "a"}}),
-    ("/api/plan", {**PLAN, "kept": [ORDER], "least": 1, "language": "de"}), ("/api/file", {**PLAN, "kind": "csv"}),
+    ("/api/plan", {**PLAN, "kept": [ORDER], "least": 1, "digest": "a", "language": "de"}),
+    ("/api/order", {"shop": SHOP, "content": content("box")}), ("/api/file", {**PLAN, "kind": "csv"}),
     ("/api/search", {"shop": SHOP, "order": ORDER, "held": 0, "seconds": 0, "seed": 1}),
     ("/api/rest", {**PLAN, "at": "2026-12-01T10:00", "down": {"saw": "2026-12-01T12:00"}})]
 
@@ -272,7 +287,7 @@ def test_no_value_at_any_place_is_a_fault_of_the_server(path: str, body: dict[st
 # Tables
 
 HEAD, ONE, TWO = [1, ["job", "saw", "drill"]], [2, ["a", "1", "2"]], [3, ["b", "3", "4"]]
-AS_READ: dict[str, Any] = {"faults": [], "more": 0, "suggested": [], "rounded": "", "shop": {
+AS_READ: dict[str, Any] = {"faults": [], "more": 0, "suggested": [], "rounded": "", "digest": mock.ANY, "shop": {
     "jobs": ["a", "b"], "machines": ["saw", "drill"], "unit": "", "decimals": 0, "times": [[1, 2], [3, 4]]}}
 
 
@@ -295,7 +310,7 @@ def test_a_file_is_read_with_its_rows(code: str, client: FlaskClient) -> None:
     table = TABLE.replace("box", "K\u00fcche")
     assert read(client, table.encode(code)) == {
         **AS_READ, "shop": {**SHOP, "jobs": [*SHOP["jobs"][:3], "K\u00fcche"]}, "delimiter": ";", "texts": None,
-        "sheets": [], "sheet": None, "isOther": code == "cp1252",
+        "sheets": [], "sheet": None, "isOther": code == "cp1252", "own": {}, "hidden": [0, 0],
         "rows": [[line, row.split(";")] for line, row in enumerate(table.splitlines(), 1)]}
 
 
@@ -316,6 +331,71 @@ def workbook(sheets: dict[str, list[list[Any]]]) -> bytes:
             book[name].append(row) if name in book.sheetnames else book.create_sheet(name).append(row)
     book.save(out)
     return out.getvalue()
+
+
+OPTIONS = {"unit": ["h", "min"], "machines": ["saw,drill", "paint, saw", '"drill"', "oven"], "decimal": ["comma"],
+           "decimals": [0, 1], "allow-totals": [None], "begin": ["2026-11-30 06:00", datetime.datetime(2026, 12, 1)],
+           "shift": ["06:00-14:00", "06:00-08:00,09:00-10:00", "fri:06:00-12:00", "6-14"], "days": ["mon-fri", "tue"],
+           "closed": ["2026-12-01", "2026-12-02..2026-12-03"], "sheet": ["KW 49", "KW 50"], "schedule": ["x.csv"],
+           "seconds": [2], "nothing": [1]}
+
+
+@pytest.mark.seconds(60)
+def test_a_workbook_is_planned_as_by_the_terminal(client: FlaskClient, tmp_path: pathlib.Path) -> None:
+    """The sheet `pfs` counts: the same plan, or the same faults."""
+    choose, done = random.Random(3), Counter[str]()
+    for number in range(200):
+        names = sorted({*choose.sample([*OPTIONS], choose.randint(0, 3)), *["begin"] * (number % 2)})
+        rows = [[name, choose.choice(OPTIONS[name])] for name in names]
+        cells = [1, 2.5, 3, 12] + ["1,5"] * choose.randint(0, 1) + ["-"] * (number % 9 == 0)
+        head = ["job [h]" if number % 3 else "job", "saw", "drill", "paint", *["total"] * (number % 5 == 0)]
+        table: list[list[Any]] = [head]
+        table += [[job, *(choose.choice(cells) for _ in table[0][1:])] for job in ("table", "box", "shelf")]
+        other: list[list[Any]] = [["job [min]", "saw", "drill"], ["a", 4, 2], ["b", 1, 3]]
+        sheets = {"KW 48": other, "KW 49": table}
+        book = workbook({"PFS" if number % 2 else "pfs": [["# options"], *rows],
+                         **dict(choose.sample([*sheets.items()], choose.randint(1, 2)))})
+        (tmp_path / "table.xlsx").write_bytes(book)
+        due = run_main(lambda: main(sys.argv[1:], plan_words()), ["pfs-plan", "table.xlsx", "--rounds", "1"], tmp_path)
+        got = asked(client, "/api/read", {"content": content(book), "name": "table.xlsx", "options": {}})
+        said, found = f"{rows} {table} {due} {got.text}", json.loads(got.text)
+        if got.status_code != 200 or found["faults"]:
+            done["refused"] += 1
+            cells = [f"cell {'ABCDE'[each['column'] - 1]}{each['line']}" if each["column"] else f"line {each['line']}"
+                     for each in found.get("faults", [])]
+            # The terminal looks at the dates first.
+            assert due.status and (
+                "needs --begin" in due.stderr or found.get("error", "") in due.stderr
+                and re.findall(r" (cell [A-E]\d+|line \d+)\b", due.stderr) == cells), said
+            continue
+        makespan, *_ = lines = due.stdout.splitlines() or [""]
+        calendar, shop = found["own"].get("calendar", {}), found["shop"]
+        order = [line.partition(" ")[2] for line in lines if re.match(r"\d+ ", line)]
+        told = asked(client, "/api/plan", {"shop": shop, "calendar": calendar, "order": order or shop["jobs"]})
+        if told.status_code != 200:
+            done["without dates"] += 1
+            assert due.status, said
+            continue
+        end = "".join(line for line in lines if line.startswith("end "))
+        plan = json.loads(told.text)
+        assert due.status == 0 and f"makespan {plan['makespan']}" == makespan, said
+        assert sorted(order) == sorted(shop["jobs"]) and f"end {plan['end']}" == (end or "end "), said
+        done["dates" if end else "plan"] += 1
+        assert found["own"].get("unused", []) == [name for name in names if name == "seconds"], said
+        assert not {"pfs", "PFS"} & {*found["sheets"]}
+    assert min(done[each] for each in ("refused", "without dates", "plan", "dates")) > 5, done
+
+
+def test_hidden_rows_and_columns_are_counted(client: FlaskClient) -> None:
+    import openpyxl
+    book, out = openpyxl.Workbook(), io.BytesIO()
+    for row in (["job", "saw", "drill"], ["a", 1, 2], ["b", 3, 4], ["c", 5, 6]):
+        book.active.append(row)
+    book.active.row_dimensions[2].hidden = book.active.row_dimensions[3].hidden = True
+    book.active.column_dimensions["C"].hidden = True
+    book.save(out)
+    got = read(client, out.getvalue())
+    assert (got["hidden"], got["shop"]["times"]) == ([2, 1], [[1, 2], [3, 4], [5, 6]])
 
 
 def test_a_sheet_is_chosen_and_decimals_are_rounded(client: FlaskClient) -> None:
@@ -460,7 +540,7 @@ TABLE_OF_SHOP = hashlib.sha256(b"(4, 3)" + struct.pack("12I", *sum(SHOP["times"]
 # The response on the plan of docs/PLAN.md.
 TOLD: dict[str, Any] = {
     "makespan": "15.5 h", "span": 155, "bound": "15.5 h", "isOptimal": True, "above": 0.0, "gone": [], "new": [],
-    "isOther": False, "table": TABLE_OF_SHOP,
+    "isOther": False,
     "end": "2026-12-01 13:30", "bottleneck": "paint", "moved": [],
     "heads": ["machine", "work", "utilisation %", "idle before", "idle between", "idle after", "critical %"],
     "machines": [["saw", "10.0", 64.5, "0.0", "0.0", "5.5", 6.5], ["drill", "9.5", 61.3, "1.0", "2.0", "3.0", 6.5],
@@ -470,7 +550,8 @@ TOLD: dict[str, Any] = {
 
 
 @pytest.mark.parametrize(("asks", "told"), [
-    ({}, {}), ({"least": 2**53, "of": TABLE_OF_SHOP}, {}), ({"least": 2**53}, {"isOther": True}),
+    ({}, {}), ({"least": 155, "digest": TABLE_OF_SHOP}, {}), ({"least": 155}, {"isOther": True}),
+    ({"least": 156, "digest": TABLE_OF_SHOP}, {"isOther": True}),
     ({"calendar": {"begin": " 2026-11-30T06:00 ", "shifts": " \n06:00-14:00 \n\n fri:06:00-12:00", "days": " mon-fri",
                    "closed": " "}}, {}),
     ({"calendar": {"shifts": " ", "days": ""}, "title": ""},
@@ -480,7 +561,7 @@ TOLD: dict[str, Any] = {
                                     "frei danach", "kritisch %"]}),
     ({"kept": [["box", "chair", "shelf", "gone"], ["shelf", *ORDER[:3]]]}, {"moved": [[], ["shelf"]]}),
     ({"order": ["box", "stool", "chair", "shelf", "box"], "held": 1}, {"gone": ["stool"], "new": ["table"]}),
-    ({"order": ["box", "chair", "shelf"], "held": 3, "least": 160, "of": TABLE_OF_SHOP}, {
+    ({"order": ["box", "chair", "shelf"], "held": 3, "least": 160, "digest": TABLE_OF_SHOP}, {
         "makespan": "16.5 h", "span": 165, "bound": "16.0 h", "isOptimal": False, "above": 3.1, "new": ["table"],
         "end": "2026-12-02 06:30", "machines": [
             ["saw", "10.0", 60.6, "0.0", "0.0", "6.5", 60.6], ["drill", "9.5", 57.6, "1.0", "2.0", "4.0", 15.2],
@@ -500,13 +581,37 @@ def test_a_plan_is_told(asks: dict[str, Any], told: dict[str, Any], client: Flas
     {"unit": "min"}, {"decimals": 0}, {"jobs": ["table", "chair", "shelf", "bin"]},
     {"machines": ["saw", "drill", "oven"]}, {"times": [*SHOP["times"][:3], [10, 10, 59]]}])
 def test_what_was_proved_of_another_table_is_not_used(other: dict[str, Any], client: FlaskClient) -> None:
-    """A title is no part of a table."""
+    """Nor is a bound above a makespan, which contradicts it. A title is no part of a table, which has the same digest
+    when it is read."""
     shop = {**SHOP, **other}
-    body = {"shop": shop, "order": shop["jobs"][::-1], "least": 10**6, "of": TABLE_OF_SHOP}
-    got = answer(client, "/api/plan", body)
-    assert got["isOther"] and not got["isOptimal"] and got["table"] != TABLE_OF_SHOP
-    again = answer(client, "/api/plan", {**body, "of": got["table"], "title": "Week 50"})
-    assert (again["isOther"], again["isOptimal"]) == (False, True)
+    unit, digits = shop["unit"], shop["decimals"]
+    rows = [[f"job [{unit}]", *shop["machines"]]]
+    rows += [[job, *(f"{each / 10 ** digits:.{digits}f}" for each in times)]
+             for job, times in zip(shop["jobs"], shop["times"])]
+    digest = answer(client, "/api/read", {"rows": [[line, row] for line, row in enumerate(rows, 1)]})["digest"]
+    body = {"shop": shop, "order": shop["jobs"][::-1], "digest": TABLE_OF_SHOP}
+    span = answer(client, "/api/plan", body)["span"]
+    own = {**body, "digest": digest, "title": "Week 50"}
+    for asks, due in (({**body, "least": span}, (True, False)), ({**own, "least": span + 1}, (True, False)),
+                      ({**own, "least": 2**53}, (True, False)), ({**own, "least": span}, (False, True))):
+        got = answer(client, "/api/plan", asks)
+        assert (got["isOther"], got["isOptimal"]) == due, asks
+
+
+@pytest.mark.parametrize(("english", "german"), [
+    ({"shifts": "06:00-14:30"}, {"shifts": "6:00 \u2013 14:30"}),
+    ({"shifts": "06:00-14:00"}, {"shifts": "06:00 - 14:00"}),
+    ({"shifts": "fri:06:00-12:00"}, {"shifts": "FR:06:00-12:00"}), ({"days": "tue-thu,sat"}, {"days": "Di-Do, sa"}),
+    ({"days": "wed,fri,sun"}, {"days": "Mi,Fr,So"}), ({"shifts": "22:00-06:00"}, {"shifts": "22:00-6:00"}),
+    ({"closed": "2026-11-30"}, {"closed": "30.11.2026"}), ({"closed": "2026-12-01"}, {"closed": "1.12.2026"}),
+    ({"closed": "2026-11-30..2026-12-02,2026-12-04"}, {"closed": "30.11.2026 - 2.12.2026, 4.12.2026"})])
+def test_dates_may_be_written_as_in_german(english: Any, german: Any, client: FlaskClient) -> None:
+    own = {"begin": "2026-11-30T06:00", "shifts": "05:00-13:00"}
+
+    def jobs(dates: Any) -> Any:
+        return answer(client, "/api/plan", {**PLAN, "calendar": {**own, **dates}})["jobs"]
+
+    assert jobs(german) == jobs(english) != jobs({})
 
 
 @pytest.mark.parametrize(("times", "told"), [([[0, 1, 0], [0, 0, 1]], ("2", "1", False, 100.0)),
@@ -515,6 +620,22 @@ def test_how_far_above_the_bound_a_plan_is(times: Any, told: Any, client: FlaskC
     shop = {"jobs": ["a", "b"], "machines": ["saw", "drill", "paint"], "times": times}
     got = answer(client, "/api/plan", {"shop": shop, "order": ["a", "b"]})
     assert (got["makespan"], got["bound"], got["isOptimal"], got["above"]) == told
+
+
+@pytest.mark.parametrize("kind", ["txt", "csv", "xlsx"])
+def test_an_order_is_read_of_what_was_downloaded(kind: str, client: FlaskClient) -> None:
+    """For another table too: names that it lacks are left out."""
+    path = asked(client, "/api/file", {**PLAN, "kind": kind}).data
+    shop = {**SHOP, "jobs": ["table", "stool", "shelf", "box"]}
+    for each, order in ((SHOP, ORDER), (shop, ["box", "table", "shelf"])):
+        assert answer(client, "/api/order", {"shop": each, "content": content(path)}) == {"order": order}
+
+
+def test_what_is_no_order_is_refused(client: FlaskClient) -> None:
+    """By its cause, without the name of a file of the server."""
+    for text, due in (("stool\n", "no job of the table is named: write the names of the jobs, one in a line"),
+                      ("box\ntable\nbox\n", "the job 'box' is in line 1 too")):
+        assert refused(client, "/api/order", {"shop": SHOP, "content": content(text)}) == (422, due)
 
 
 BEGINS = {"xlsx": b"PK", "zip": b"PK", "pdf": b"%PDF", "csv": b"\xef\xbb\xbfjob;machine", "html": b"<!DOCTYPE html>",
@@ -617,11 +738,11 @@ def test_searches_wait_in_a_queue_and_are_limited(monkeypatch: pytest.MonkeyPatc
         assert [answer(client, f"/api/search/{name}", method="GET")["place"] for name in names] == [0, 0, 1, 2]
         for name in names[:2]:
             told = waited(client, name, lambda told: told["rounds"] > 0)
-            assert "order" not in told and told["makespan"].endswith(" h")
+            assert len({*told["order"]}) == 30 and told["makespan"].endswith(" h"), "its best order so far"
         assert [run.state for run in found.runs.values()] == ["searching"] * 2 + ["waiting"] * 2
         told = answer(client, f"/api/search/{names[3]}", method="GET")
         assert told == {"state": "waiting", "place": 2, "rounds": 0, "limit": 600, "seconds": 0.0, "makespan": "",
-                        "bound": told["bound"]} and told["bound"].endswith(" h")
+                        "isCut": False, "bound": told["bound"]} and told["bound"].endswith(" h")
         assert refused(client, "/api/search", LONG) == (
             429, "4 searches of this address run or wait: end one of them")
         monkeypatch.setattr(searches, "MOST_OF_ONE", 99)
@@ -631,9 +752,9 @@ def test_searches_wait_in_a_queue_and_are_limited(monkeypatch: pytest.MonkeyPatc
         got = asked(client, f"/api/search/{names[2]}", method="GET")
         assert (got.status_code, got.json) == (404, {"error": "this search is over"})
         last = found.runs[names[-1]]
-        for seconds in (19.5, 1):
+        for seconds in (119.5, 1):
             last.asked -= seconds
-            assert last.is_left() == (seconds == 1), "after 20 seconds"
+            assert last.is_left() == (seconds == 1), "after two minutes"
         assert answer(client, f"/api/search/{names[3]}", method="GET")["place"] == 1
         begun = time.monotonic()
         answer(client, f"/api/search/{names[0]}", method="DELETE")
@@ -645,11 +766,61 @@ def test_searches_wait_in_a_queue_and_are_limited(monkeypatch: pytest.MonkeyPatc
     assert all(run.is_set() for run in found.runs.values())
 
 
+def test_each_address_has_a_search_in_turn() -> None:
+    """An address whose search has begun waits for those whose search hasn't."""
+    found = searches.Searches(1)
+    client = client_of(found)
+
+    def add(address: str) -> str:
+        return str(found.add({**LONG, "seconds": 600}, address)["search"])
+
+    try:
+        first = add("10.0.0.1")
+        waited(client, first, lambda told: told["state"] == "searching")
+        names = [add(f"10.0.0.{last}") for last in (1, 1, 2, 2, 3)]
+        assert [found.told(name)["place"] for name in names] == [3, 5, 1, 4, 2]
+        found.end(names[2])
+        assert [found.told(name)["place"] for name in (*names[:2], *names[3:])] == [3, 4, 1, 2]
+        found.end(first)
+        waited(client, names[3], lambda told: told["state"] == "searching")
+        assert [found.told(name)["place"] for name in (*names[:2], names[4])] == [2, 3, 1]
+    finally:
+        found.end_all()
+
+
+def test_a_result_is_kept_for_some_minutes(monkeypatch: pytest.MonkeyPatch) -> None:
+    """A search that nobody asked for says that it was cut, and has its best order. The results of those who asked last
+    are kept. One that waits and is ended leaves nothing, and a result has no table."""
+    found = searches.Searches(1)
+    client = client_of(found)
+    name, other = (answer(client, "/api/search", LONG)["search"] for _ in range(2))
+    assert not waited(client, name, lambda told: told["rounds"] > 0)["isCut"]
+    plans_of: weakref.WeakSet[Any] = weakref.WeakSet(run.plan for run in found.runs.values())
+    answer(client, f"/api/search/{other}", method="DELETE")
+    assert [*found.runs] == [name] and len(plans_of) == 1
+    found.runs[name].asked -= 121
+    wait_until(lambda: found.runs[name].state == "done" and not plans_of, "it ends by itself", 20)
+    told = answer(client, f"/api/search/{name}", method="GET")
+    assert told["isCut"] and len(told["order"]) == 30 and told["seconds"] < 20
+    assert answer(client, "/api/plan", {**LONG, "order": told["order"]})["makespan"] == told["makespan"]
+    monkeypatch.setattr(searches, "MOST_KEPT", 2)
+    small = [answer(client, "/api/search", {"shop": SHOP, "seconds": 0})["search"] for _ in range(2)]
+    assert not waited(client, small[0])["isCut"] and not waited(client, small[1])["isCut"]
+    answer(client, "/api/search/none", method="DELETE")
+    assert [*found.runs] == small
+    for seconds in (599.5, 1):
+        found.runs[small[0]].asked -= seconds
+        assert found.runs[small[0]].is_left() == (seconds == 1), "after ten minutes"
+    answer(client, "/api/search/none", method="DELETE")
+    assert [*found.runs] == small[1:]
+
+
 def test_a_search_ends_when_nobody_asks(monkeypatch: pytest.MonkeyPatch) -> None:
     """Also one that waits. Its result is forgotten."""
     found = searches.Searches(1)
     client = client_of(found)
     names = [answer(client, "/api/search", LONG)["search"] for _ in range(2)]
     monkeypatch.setattr(searches, "FORGET", 0.3)
+    monkeypatch.setattr(searches, "KEPT", 0.3)
     wait_until(lambda: not (answer(client, "/api/search/none", method="DELETE") or found.runs), "all are forgotten", 5)
     assert {asked(client, f"/api/search/{name}", method="GET").status_code for name in names} == {404}

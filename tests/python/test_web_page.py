@@ -1,5 +1,6 @@
 """The page for planners in a browser: a week of a planner, by a pointer and by the keyboard alone."""
 import base64
+import contextlib
 import difflib
 import json
 import pathlib
@@ -95,9 +96,9 @@ class Page:
         return [each["message"] for each in self.browser.get_log("browser")]
 
 
-@pytest.fixture(scope="module")
-def page(tmp_path_factory: pytest.TempPathFactory) -> Iterator[Page]:
-    folder = tmp_path_factory.mktemp("browser")
+@contextlib.contextmanager
+def browser_in(folder: pathlib.Path) -> Iterator[webdriver.Chrome]:
+    """A browser, which downloads to this folder."""
     options = webdriver.ChromeOptions()
     options.binary_location = tool("chromium")
     for flag in ("--headless=new", "--no-sandbox", "--disable-gpu", "--disable-dev-shm-usage", "--lang=en",
@@ -106,12 +107,18 @@ def page(tmp_path_factory: pytest.TempPathFactory) -> Iterator[Page]:
     options.add_experimental_option("prefs", {"download.default_directory": str(folder),
                                               "profile.default_content_setting_values.automatic_downloads": 1})
     options.set_capability("goog:loggingPrefs", {"browser": "ALL"})
-    with served("--searches", "2") as server:
-        browser = webdriver.Chrome(service=Service(tool("chromedriver")), options=options)
-        try:
-            yield Page(browser, server, folder)
-        finally:
-            browser.quit()
+    browser = webdriver.Chrome(service=Service(tool("chromedriver")), options=options)
+    try:
+        yield browser
+    finally:
+        browser.quit()
+
+
+@pytest.fixture(scope="module")
+def page(tmp_path_factory: pytest.TempPathFactory) -> Iterator[Page]:
+    folder = tmp_path_factory.mktemp("browser")
+    with served("--searches", "2") as server, browser_in(folder) as browser:
+        yield Page(browser, server, folder)
 
 
 # Notes what the page asks, and says what is seen of it. What a search returns is up to the test.
@@ -119,7 +126,7 @@ WATCH = r"""{
 Object.assign(window, {noted: [], busy: 0, late: null, fails: null, teller: null});
 const ownFetch = window.fetch, ownRead = FileReader.prototype.readAsDataURL;
 window.fetch = async (path, given = {}) => {
-  const name = path.replace("/api/", "");
+  const name = path.replace("api/", "");
   noted.push([given.method, name, given.body ? JSON.parse(given.body) : {}]);
   const failure = fails, wait = late;
   fails = null;
@@ -130,10 +137,11 @@ window.fetch = async (path, given = {}) => {
     return Response.json(given.method === "GET" && await new Promise(done => { teller = done; }));
   late = null;
   busy += !wait;
-  const got = await ownFetch(path, given), content = await got.arrayBuffer();
-  await wait;
-  busy -= !wait;
-  return new Response(content, got);
+  try {
+    const got = await ownFetch(path, given), content = await got.arrayBuffer();
+    await wait;
+    return new Response(content, got);
+  } finally { busy -= !wait; }
 };
 FileReader.prototype.readAsDataURL = function (file) {
   busy += 1;
@@ -143,10 +151,12 @@ FileReader.prototype.readAsDataURL = function (file) {
 HTMLAnchorElement.prototype.click = function () { noted.push(["save", this.download, {}]); };
 URL.revokeObjectURL = href => noted.push(["free", href.slice(0, 5), {}]);
 const ownWait = window.setTimeout;
-window.setTimeout = (call, wait) => ownWait(call, wait === 60_000 ? 0 : wait);
+// What failed is asked again when the network comes back, and not after some seconds.
+window.setTimeout = (call, wait, ...given) => wait >= 1000 && wait < 60_000 ? 0
+  : ownWait(call, wait === 60_000 ? 0 : wait, ...given);
 // Waits until nothing is under way but a search that asks again.
 window.idle = async () => {
-  for (let calm = 0; calm < 3; calm = busy || running && !teller ? 0 : calm + 1)
+  for (let calm = 0; calm < 3; calm = busy || window.desk?.state.search && !teller ? 0 : calm + 1)
     await new Promise(done => setTimeout(done, 10));
 };
 const SIGNS = ["wrong", "off", "held", "best", "moved", "over"], BLOCKS = "p, li, h1, h2, h3, tr, summary, label, div";
@@ -281,7 +291,7 @@ def test_each_step_in_german(page: Page) -> None:
         Play(page, {"woche.xlsx": BOOK, "laden.csv": LADEN.encode("cp1252")}).play(script)
     finally:
         page.browser.execute_cdp_cmd("Page.removeScriptToEvaluateOnNewDocument", watch)
-    assert [" 422 " in each for each in page.logged()] == [True] * 3, "the plans without a beginning"
+    assert [" 422 " in each for each in page.logged()] == [True] * 4, "other jobs, and plans without a beginning"
 
 
 # Looks at a list of many rows as it is scrolled, and at what gets the focus there.
@@ -291,10 +301,11 @@ const later = () => new Promise(next => requestAnimationFrame(() => setTimeout(n
 const check = (isTrue, ...what) => { if (!isTrue) faults.push(what.join(" ")); };
 let told = 0;
 (async () => {
+  const lists = await import("/static/lists.js"), {control, letters, listIn, made, rowOf} = lists;
   const box = made("div", null, document.body, {className: "list"}), own = () => document.activeElement;
   const list = listIn(box, at => {
     const row = rowOf([`row ${at}`]);
-    const onblur = () => { told += !isDrawing; };
+    const onblur = () => { told += !lists.isDrawing; };
     control("input", `k${at}`, "", row.lastChild, {type: "text", value: "old", onblur});
     return row;
   }, () => rowOf(["head"], null, "th"));
@@ -423,16 +434,19 @@ def test_nothing_is_hard_to_read(wide: int, colours: str, page: Page) -> None:
         page.wait(lambda: page.one("#suggest").is_displayed())
         page.click("#suggest")
         page.wait(lambda: page.all(".off"))
-        run("say('one\\ntwo')")
+        run("desk.say('one\\ntwo')")
         assert run(LOOK) == []
         jobs = (f"J{at};{at * 7 % 50 + 1};{at * 11 % 50 + 1}\n" for at in range(1, 13))
         page.paste("job [min];saw;drill\n" + "".join(jobs))
         page.wait(lambda: "12 Auf" in page.text("#read"))
-        for step, seen in (("doc.order = [...read.shop.jobs]; evaluate()", ".name"), ("byId('keep').click()", ".best"),
-                           ("move(5, 0, 'J6:up')", ".moved")):
+        for step, seen in ((
+                "desk.change(now => desk.steps.changed(now, {plan: {digest: now.read.digest, held: 0, "
+                "order: [...now.read.shop.jobs]}}))", ".name"), ("document.querySelector('#keep').click()", ".best"),
+                ("desk.change(now => desk.steps.moved(now, 'J6', 0))", ".moved")):
             run(step)
             page.wait(lambda: page.all(f"section {seen}"), step)
         page.press("J2:hold")
+        page.wait(lambda: page.all(".held"))
         assert run(LOOK) == []
     finally:
         send("Emulation.clearDeviceMetricsOverride", {})
@@ -450,12 +464,13 @@ def test_a_plan_is_searched_drawn_and_downloaded(page: Page) -> None:
     seconds = Select(page.one("#seconds"))
     assert [each.get_attribute("value") for each in seconds.options] == ["2", "10", "60", "600"]
     seconds.select_by_value("600")
-    page.browser.execute_script("arguments[0].value = '2026-11-30T06:00'", page.one("#begin"))
+    page.browser.execute_script("arguments[0].value = '2026-11-30T06:00'; "
+                                "arguments[0].dispatchEvent(new Event('change', {bubbles: true}))", page.one("#begin"))
     page.click("#plan")
     page.wait(lambda: re.search(r"so far, no order is below .+; 5\d\d s left$", page.text("#progress")))
     page.click("#end")
     page.wait(lambda: page.one("#plan").is_enabled() and len(page.order()) > 10)
-    assert sorted(page.browser.execute_script("return doc.order")) == sorted(jobs)
+    assert sorted(page.browser.execute_script("return desk.state.doc.plan.order")) == sorted(jobs)
     page.browser.switch_to.frame(page.one("#chart"))
     assert page.one("canvas").size["width"] > 300, "the chart has its script and its style"
     page.browser.switch_to.default_content()
@@ -467,7 +482,7 @@ def test_a_plan_is_searched_drawn_and_downloaded(page: Page) -> None:
         page.wait(lambda: path.exists() and path.stat().st_size, f"{path} in {[*page.downloads.iterdir()]}")
         assert path.read_bytes().startswith(start)
     assert "../S\u00e4ge 49" in (page.downloads / "---S\u00e4ge 49.html").read_text("utf-8"), "a file has its title"
-    assert path.read_text().splitlines() == page.browser.execute_script("return doc.order")
+    assert path.read_text().splitlines() == page.browser.execute_script("return desk.state.doc.plan.order")
     assert page.logged() == [] and page.browser.title == "Plan a flow shop", "no script of a name has run"
 
 
@@ -489,7 +504,7 @@ def test_by_the_keyboard_alone(page: Page) -> None:
     # Faster than the server reads what is written.
     press("71", Keys.TAB, "73", Keys.TAB, Keys.TAB, "K3", Keys.ENTER)
     page.wait(lambda: press() == "4,1" and page.browser.execute_script(
-        "return read.shop.times[1].join() + read.shop.jobs[2]") == "71,73K3")
+        "return desk.state.read.shop.times[1].join() + desk.state.read.shop.jobs[2]") == "71,73K3")
     tab_to("plan")
     press(Keys.ENTER)
     page.wait(lambda: len(page.order()) == 4)
@@ -515,3 +530,11 @@ def test_the_page_has_the_language_of_the_browser(page: Page) -> None:
         page.wait(lambda: page.one(f"html[lang={due}] #language").get_property("value") == due)
     Select(page.one("#language")).select_by_value("de")
     page.wait(lambda: page.text("h1") == "Flie\u00dffertigung planen")
+
+
+def test_an_address_without_its_token_says_so(page: Page) -> None:
+    """As a bookmark is, before a table is dropped."""
+    page.open()
+    page.browser.execute_script("sessionStorage.clear()")
+    page.browser.get(f"http://127.0.0.1:{page.server.port}/")
+    page.wait(lambda: page.text("#message") == "The token is missing or wrong: ask for the whole address of the page.")

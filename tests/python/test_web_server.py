@@ -174,15 +174,19 @@ def test_a_planner_has_the_address_that_the_proxy_names(is_behind: bool) -> None
 
 
 def test_the_recipe_for_nginx_serves_the_page_by_tls(token_file: pathlib.Path, tmp_path: pathlib.Path) -> None:
-    """The page on installing names a machine and files, which are others here."""
+    """The page on installing names a machine and files, which are others here. It also serves the page below a path."""
     nginx, port = tool("nginx"), free_port()
     output_of([tool("openssl"), "req", "-x509", "-newkey", "rsa:2048", "-nodes", "-keyout", "key.pem", "-out",
                "cert.pem", "-days", "2", "-subj", "/CN=planning.example", "-addext",
                "subjectAltName=DNS:planning.example"], tmp_path)
-    with served("--name", "planning.example", "--proxy", "--token-file", str(token_file)) as found:
+    name = f"planning.example:{port}"
+    with served("--name", name, "--proxy", "--token-file", str(token_file)) as found:
         text, = re.findall(r"```nginx\n(.*?)```", (TOP / "docs" / "INSTALL.md").read_text(), re.DOTALL)
         text = text.replace("8470", str(found.port)).replace("listen 443", f"listen 127.0.0.1:{port}")
         text = re.sub(r"/etc/\S+/(cert|key)\.pem", rf"{tmp_path}/\1.pem", text)
+        below, = re.findall(r"    location / .*?\}\n", text, re.DOTALL)
+        text = text.replace(below, below + below.replace("location /", "location /planung/").replace(
+            f"{found.port};", f"{found.port}/;"))
         temporary = "".join(f"{kind}_temp_path {tmp_path}/{kind}; "
                             for kind in ("client_body", "proxy", "fastcgi", "uwsgi", "scgi"))
         (tmp_path / "conf").write_text(f"daemon off; pid {tmp_path}/pid; error_log {tmp_path}/error; events {{}}\n"
@@ -190,13 +194,17 @@ def test_the_recipe_for_nginx_serves_the_page_by_tls(token_file: pathlib.Path, t
         proxy = subprocess.Popen([nginx, "-c", str(tmp_path / "conf"), "-e", str(tmp_path / "error")])
         try:
             wait_until(lambda: answers(port), "the proxy answers")
-            curl = ["curl", "-s", "-w", "\n%{http_code}", "--cacert", "cert.pem", "--resolve",
-                    f"planning.example:{port}:127.0.0.1"]
-            address = f"https://planning.example:{port}"
-            own = ["-H", f"X-Pfs-Token: {TOKEN}", "-H", "Content-Type: application/json",
-                   "-H", "Origin: https://planning.example"]
-            assert output_of([*curl, address], tmp_path).endswith("\n200")
-            assert output_of([*curl, *own, "-d", '{"rows":[]}', f"{address}/api/read"], tmp_path).endswith("\n200")
+            curl = ["curl", "-s", "-w", "\n%{http_code}", "--cacert", "cert.pem", "--resolve", f"{name}:127.0.0.1"]
+            address = f"https://{name}"
+            own = ["-H", f"X-Pfs-Token: {TOKEN}", "-H", "Content-Type: application/json", "-H", f"Origin: {address}"]
+            for path in ("", "/planung"):
+                page = output_of([*curl, f"{address}{path}/"], tmp_path)
+                links = re.findall('(?:href|src)="([^":]*)"', page)
+                assert page.endswith("\n200") and len(links) == 2
+                for link in links:
+                    assert output_of([*curl, f"{address}{path}/{link}"], tmp_path).endswith("\n200")
+                assert output_of([*curl, *own, "-d", '{"rows":[]}', f"{address}{path}/api/read"],
+                                 tmp_path).endswith("\n200")
             (tmp_path / "large").write_bytes(b" " * 9 * 2**20)
             assert output_of([*curl, *own, "-d", "@large", f"{address}/api/read"], tmp_path).endswith("\n413")
         finally:

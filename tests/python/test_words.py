@@ -10,6 +10,8 @@ from pfs.schedules import chart, report
 from pfs.schedules.chart import PAGE_WORDS
 from support.browser import PEN, looked_at, scripted
 from support.commands import ended
+from support.needs import tool
+from support.tools import output_of
 
 openpyxl = pytest.importorskip("openpyxl")
 TABLE = "job [min];saw;drill\ntable;300;200\nchair;250;400\n"
@@ -58,6 +60,26 @@ def test_a_language_of_a_file(folder: pathlib.Path) -> None:
     assert (folder / "plan.csv").read_text("utf-8-sig").startswith('"commande; n°";machine;start;fin = arrêt\n')
     assert ended([*words, "--order", "plan.csv", "--compare", "plan.csv"], folder)[0] == 0
     assert ended(["plan", "times.csv", "--order", "plan.csv"], folder)[0] == 2, "in none of the languages"
+
+
+def test_names_outside_ascii_are_in_all_that_is_written(folder: pathlib.Path) -> None:
+    """In the order that is printed, CSV, a workbook, calendars, pictures, a page and in Jupyter, as in the table."""
+    names = ["Säge", "Łódź", "Tür", "Øre"]
+    (folder / "times.csv").write_text("job [min];{};{}\n{};300;200\n{};250;400\n".format(*names), "utf-8")
+    status, printed, _ = ended(["plan", "times.csv"], folder)
+    assert status == 0 and {*names[2:]} <= {*printed.split()}
+    plan = pfs.read_csv(folder / "times.csv").schedule([0, 1])
+    for ending in ("csv", "xlsx", "svg", "pdf", "html"):
+        getattr(plan, {"csv": "to_csv", "xlsx": "to_xlsx"}.get(ending, "plot"))(folder / f"plan.{ending}")
+    events = plan.to_ics(folder / "plan.ics", pfs.Calendar("2026-11-30T06:00"))
+    assert [pathlib.Path(path).name for path in events] == [f"plan-{name}.ics" for name in names[:2]]
+    book = openpyxl.load_workbook(folder / "plan.xlsx")
+    written = {"workbook": repr([[*sheet.values] for sheet in book]), "Jupyter": str(plan._repr_svg_()),
+               "PDF": output_of([tool("pdftotext"), "plan.pdf", "-"], folder),
+               **{ending: (folder / f"plan.{ending}").read_text("utf-8") for ending in ("csv", "svg", "html")},
+               "ICS": "".join(pathlib.Path(path).read_text("utf-8") for path in events)}
+    assert {where: [name for name in names if name not in text] for where, text in written.items()} == dict.fromkeys(
+        written, [])
 
 
 def test_all_faults_of_a_language(folder: pathlib.Path) -> None:

@@ -156,7 +156,8 @@ def test_a_script_ends_where_a_step_fails(script: str, top: pathlib.Path, folder
 
 
 LIB = "tools/build|pfs_c; tools/library"
-COVER = f"{PYTEST}{COVERED}--junitxml=out/tests.xml|--ignore=tests/python/test_web_page.py|tests/python into out/lines"
+COVER = f"{PYTEST}{COVERED}--junitxml=out/tests.xml|--ignore=tests/python/test_web_page.py|" \
+        "--ignore=tests/python/test_web_state.py|tests/python into out/lines"
 TAILLARD = "python3|-B|-m|pfs.experiments|taillard|--pfs|crates/pfs/out/pfs|experiments/out/taillard with python/src"
 # What each goal of `make` calls, and what it calls again a second time, with its variables.
 GOALS = [

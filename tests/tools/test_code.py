@@ -90,14 +90,18 @@ def imports_of(path: str) -> set[tuple[str, str]]:
     return found
 
 
+# The page takes the options on a sheet `pfs` as `pfs-plan` does.
+OF_OPTIONS = {("web/plans.py", "pfs.commands.cli"), ("web/plans.py", "pfs.commands.main")}
+
+
 @pytest.mark.parametrize("path", sorted(str(path.relative_to(PACKAGE)) for path in PACKAGE.glob("*/**/*.py")))
 def test_imports_go_down(path: str) -> None:
     """As ARCHITECTURE.md says, with lazy imports and those for types. No name with an underscore is taken, and only
-    command lines import argparse and each other."""
+    command lines import argparse and each other, but for what reads the options of a workbook."""
     own, above = path.split("/")[0], [*LAYERS]
     for module, name in imports_of(path):
         folder = module.split(".")[1] if module.startswith("pfs.") else ""
-        is_command = own == "commands" or path.endswith("__main__.py")
+        is_command = own == "commands" or path.endswith("__main__.py") or (path, module) in OF_OPTIONS
         assert module != "argparse" and folder != "commands" or is_command, f"{path} imports {module}"
         if folder and folder != own and (path, module) not in TYPES:
             assert folder in LAYERS[own] and above.index(folder) < above.index(own), f"{path} imports {module}"
@@ -117,6 +121,34 @@ def test_each_folder_of_the_package_is_described_and_uses_what_it_may() -> None:
 # The files that .clang-format is for.
 C_FILES = sorted(str(path.relative_to(TOP)) for folder in ("lib", "examples", "bench")
                  for path in (TOP / folder).iterdir() if path.suffix in (".c", ".cpp", ".h", ".hpp"))
+
+
+def text_of(node: ast.JoinedStr | ast.Constant) -> str:
+    """A text of Python, with a zero byte in the place of each value."""
+    parts = node.values if isinstance(node, ast.JoinedStr) else [node]
+    return "".join(str(part.value) if isinstance(part, ast.Constant) else "\0" for part in parts)
+
+
+def test_each_value_of_a_fault_is_in_an_expected_text() -> None:
+    """With some letters of the message before or after it, if there are as many. Commands name an option --so, and the
+    package `so`."""
+    expected = "\n".join({re.sub(r"\\(?=[^\w\s])", "", text_of(node)) for path in (TOP / "tests").rglob("*.py")
+                          for node in ast.walk(ast.parse(path.read_text()))
+                          if isinstance(node, ast.JoinedStr) or isinstance(node, ast.Constant) and node.value != ""
+                          and isinstance(node.value, str)})
+    expected += re.sub(r"--(\w+): ", r"`\1`: ", expected)
+    messages = [(path, text_of(node)) for path in PACKAGE.rglob("*.py") for fault in
+                ast.walk(ast.parse(path.read_text())) if isinstance(fault, ast.Raise) and fault.exc
+                for node in ast.walk(fault.exc) if isinstance(node, ast.JoinedStr)]
+    missing = []
+    for path, message in messages:
+        parts = message.split("\0")
+        for at, (before, after) in enumerate(zip(parts, parts[1:])):
+            first, last = re.escape(before[-7:]), re.escape(after[:7])
+            ways = [rf"{first}(?!\.\*)[^\n]+?(?:{last}|$)"] * (len(before) > 2) + [rf"^.*\S{last}"] * (len(after) > 2)
+            if ways and not any(re.search(way, expected, re.MULTILINE) for way in ways):
+                missing.append((path.name, at, message))
+    assert len(messages) > 200 and missing == []
 
 
 @pytest.mark.parametrize("path", C_FILES)

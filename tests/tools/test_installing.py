@@ -129,6 +129,7 @@ int main(void) { return printf("%s %s\\n", pfs_version(), PFS_VERSION) < 0; }
 CMAKE = """cmake_minimum_required(VERSION 3.13)
 project(caller C)
 find_package(pfs {wanted} REQUIRED)
+find_package(pfs {wanted} REQUIRED)  # as two parts of a project do
 foreach(target pfs pfs_static)
     add_executable(${{target}}_caller caller.c)
     target_link_libraries(${{target}}_caller pfs::${{target}})
@@ -203,6 +204,19 @@ def test_what_is_older_than_a_source_would_be_built(copy: Copy) -> None:
             got = copy.make(PROGRAM, BUILT_LIBRARY, "-n")
             path.unlink() if is_new else os.utime(path, (OLD, OLD))
             assert re.findall(r"^touch (\S+)", got.stdout, re.MULTILINE) == goals, path
+
+
+def test_each_crate_below_what_is_built_makes_it_older(copy: Copy) -> None:
+    """By crates.txt."""
+    below = {kind.split()[0]: [kind.split()[0], *crates.split()] for kind, _, crates in
+             (line.partition(":") for line in (copy.top / "crates.txt").read_text().splitlines())}
+    for crate in below:
+        path = copy.top / "crates" / crate / "src" / ("lib.rt" if crate not in ("pfs", "pfs_calls") else "main.rt")
+        path.touch()
+        got = copy.make(PROGRAM, BUILT_LIBRARY, "-n").stdout
+        os.utime(path, (OLD, OLD))
+        for goal, whole in ((PROGRAM, below["pfs"] + below["pfs_desk"]), (BUILT_LIBRARY, below["pfs_c"])):
+            assert crate not in whole or f"\ntouch {goal}" in got, f"{crate} and {goal}"
 
 
 @pytest.mark.parametrize("name", ["crates.txt", PROGRAM])

@@ -1,5 +1,5 @@
 """The server: who may send requests, and the responses. It stores nothing: the browser sends its document with each
-request, and a search is forgotten when nobody asks for it."""
+request, and a search is forgotten some minutes after nobody asks for it."""
 from __future__ import annotations
 
 import binascii
@@ -13,6 +13,7 @@ from urllib.parse import urlsplit
 from flask import Flask, Response, request, send_file
 from werkzeug.exceptions import HTTPException
 
+from pfs.base.names import shown
 from pfs.base.wording import as_controls
 from pfs.schedules.chart import policy_of
 from pfs.web import plans
@@ -23,7 +24,7 @@ from pfs.web.searches import Searches
 MOST_BODY = 8 * 2**20
 HEADERS = {"X-Content-Type-Options": "nosniff", "Cache-Control": "no-store", "Referrer-Policy": "no-referrer",
            "Cross-Origin-Opener-Policy": "same-origin", "Cross-Origin-Resource-Policy": "same-origin"}
-CALLS = {"read": plans.read, "plan": plans.told, "rest": plans.rest, "file": plans.file}
+CALLS = {"read": plans.read, "order": plans.order, "plan": plans.told, "rest": plans.rest, "file": plans.file}
 
 
 def policy() -> str:
@@ -47,7 +48,7 @@ def check(names: set[str], token: str) -> None:
             or request.headers.get("Sec-Fetch-Site", "none") not in ("none", "same-origin"):
         raise Wrong("Pages of other sites may not ask.", 403)
     if not hmac.compare_digest(request.headers.get("X-Pfs-Token", "").encode(), token.encode()):
-        raise Wrong("The token is missing or wrong: open the address that the server printed.", 403)
+        raise Wrong("The token is missing or wrong: ask for the whole address of the page.", 403)
     if request.method == "POST" and request.mimetype != "application/json":
         raise Wrong("Send JSON.", 415)
 
@@ -69,7 +70,12 @@ def failed(error: Exception) -> tuple[dict[str, str], int]:
     elif not isinstance(error, (ValueError, ImportError)):
         logging.exception("a request failed", exc_info=error)
         error = Wrong("the server failed; its log says why", 500)
-    return {"error": as_controls(str(error))}, getattr(error, "status", 422)
+    status: int = getattr(error, "status", 422)
+    if status in (403, 421):
+        # What comes after this part may be a secret.
+        path = shown("/".join(request.path.split("/")[:3]))
+        logging.info("refused: %d %s %s %s", status, request.method, path, request.remote_addr)
+    return {"error": as_controls(str(error))}, status
 
 
 def made(names: set[str], token: str, searches: Searches) -> Flask:

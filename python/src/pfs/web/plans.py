@@ -3,7 +3,11 @@ are called apart (`pfs.web.apart`)."""
 from __future__ import annotations
 
 import base64
+import contextlib
+import csv
+import io
 import pathlib
+import re
 import zipfile
 from typing import Any
 
@@ -11,16 +15,19 @@ from pfs.base.faults import TableFault
 from pfs.base.languages import words_of
 from pfs.base.names import shown
 from pfs.base.wording import as_controls
-from pfs.base.workbooks import MOST_ROWS, Workbook
+from pfs.base.workbooks import MOST_ROWS, OPTIONS_SHEET, Workbook
+from pfs.commands.cli import Misused
+from pfs.commands.main import DECIMAL_SIGNS, parsed, plan_words
 from pfs.files import tables
-from pfs.plan.orders import moved, numbers_by_name
+from pfs.plan.orders import moved, numbers_by_name, order_in
 from pfs.plan.plan import Plan, calendar_of
-from pfs.schedules.calendar import needed, text_of
+from pfs.schedules.calendar import begin_of, needed, text_of
 from pfs.shops.instance import Instance
 from pfs.web.apart import Wrong
 
 # The most times of a table, faults that are listed, and letters of a text.
 MOST_TIMES, MOST_FAULTS, MOST_LETTERS = 400_000, 2_000, 10_000
+DAY_OF = {"mo": "mon", "di": "tue", "mi": "wed", "do": "thu", "fr": "fri", "sa": "sat", "so": "sun"}
 OTHER_FORM = Wrong("the request has another form than those of this server's page", 400)
 
 
@@ -44,6 +51,11 @@ def texts(given: Any) -> list[str]:
     return given
 
 
+def content_from(given: dict[str, Any]) -> bytes:
+    """The content of a file."""
+    return base64.b64decode(field(given, "content", str, "", 2**23), validate=True)
+
+
 # Tables
 
 def read(given: dict[str, Any], folder: str) -> dict[str, Any]:
@@ -51,14 +63,18 @@ def read(given: dict[str, Any], folder: str) -> dict[str, Any]:
     options = field(given, "options", dict, {})
     if "content" not in given:
         return shop_of(rows_from(given.get("rows")), options)
-    content = base64.b64decode(field(given, "content", str, "", 2**23), validate=True)
+    content, own, hidden = content_from(given), dict[str, Any](), [0, 0]
     name, sheet = field(given, "name", str, ""), field(options, "sheet", str)
     faults, sheets, marked = list[TableFault](), list[str](), None
     if content.startswith(tables.ARCHIVE):
-        book = Workbook(content, name)
-        sheets, sheet = book.names, sheet if sheet in book.names else book.first
-        table = book.csv_of(sheet, tables.MOST_ROWS + 2)
-        marked = [[*place] for place in sorted(book.texts)]
+        # A sheet is named when another one is chosen.
+        own = {} if sheet else set_in(content, pathlib.Path(folder, "table.xlsx"))
+        options, book = {**options, **own.get("typed", {})}, Workbook(content, name)
+        sheets, sheet = [each for each in book.names if each.casefold() != OPTIONS_SHEET], options.get("sheet")
+        if own and sheet and sheet not in book.names:
+            raise Wrong(f"{name} has no sheet {sheet!r}, but {', '.join(map(repr, book.names))}")
+        table = book.csv_of(sheet := sheet if sheet in book.names else book.first, tables.MOST_ROWS + 2)
+        marked, hidden = [[*place] for place in sorted(book.texts)], book.hidden
     else:
         table = tables.text_of(content, name, faults)
     delimiter = tables.delimiter_of(table)
@@ -66,7 +82,27 @@ def read(given: dict[str, Any], folder: str) -> dict[str, Any]:
     if len(rows) > tables.MOST_ROWS:
         raise Wrong(f"the table has more than {tables.MOST_ROWS:,} rows")
     return {"rows": rows, "delimiter": delimiter, "texts": marked, "sheets": sheets, "sheet": sheet,
-            "isOther": bool(faults), **shop_of(rows, {**options, "delimiter": delimiter, "texts": marked})}
+            "isOther": bool(faults), "own": own, "hidden": hidden,
+            **shop_of(rows, {**options, "delimiter": delimiter, "texts": marked})}
+
+
+def set_in(content: bytes, path: pathlib.Path) -> dict[str, Any]:
+    """What the sheet `pfs` of a workbook sets, as for `pfs-plan`, and the options that have no field on the page."""
+    path.write_bytes(content)
+    try:
+        with contextlib.redirect_stderr(io.StringIO()):
+            found, usual = (vars(parsed([str(each)], plan_words())) for each in (path, path.with_name("none")))
+    except Misused as fault:
+        raise Wrong(str(fault).removeprefix(f"{path}, ")) from None
+    given = {name for name, value in found.items() if value != usual[name]} - {"table"}
+    fields = {*"unit sheet decimals decimal machines allow_totals begin shift days closed".split()}
+    typed = {**{name: found[name] for name in ("unit", "sheet", "decimals")}, "totals": found["allow_totals"],
+             "decimal": DECIMAL_SIGNS.get(found["decimal"], ""), "machines": next(csv.reader(
+                 [found["machines"] or ""], skipinitialspace=True), [])}
+    begin = text_of(begin_of(found["begin"]), 0).replace(" ", "T") if found["begin"] else ""
+    dates = {"begin": begin, "shifts": "\n".join(found["shift"])}
+    dates |= {name: ",".join(found[name]) for name in ("days", "closed")}
+    return {"typed": typed, "calendar": dates, "unused": sorted(given - fields)} if given else {}
 
 
 def shop_of(rows: list[tuple[int, list[str]]], options: dict[str, Any]) -> dict[str, Any]:
@@ -87,7 +123,7 @@ def shop_of(rows: list[tuple[int, list[str]]], options: dict[str, Any]) -> dict[
                  for each in (fault, *fault.others)]
         return {"faults": found[:MOST_FAULTS], "more": len(found[MOST_FAULTS:]),
                 "suggested": tables.likely_machines(rows)}
-    return {"faults": [], "more": 0, "suggested": [], "rounded": rounded,
+    return {"faults": [], "more": 0, "suggested": [], "rounded": rounded, "digest": Plan(shop).table,
             "shop": {"jobs": shop.job_names, "machines": shop.machine_names, "unit": shop.unit,
                      "decimals": shop.decimals, "times": shop.times.tolist()}}
 
@@ -117,6 +153,16 @@ def shop_from(given: dict[str, Any]) -> Instance:
                     unit=field(fields, "unit", str, ""), decimals=field(fields, "decimals", int, 0, 9))
 
 
+def order(given: dict[str, Any], folder: str) -> dict[str, list[str]]:
+    """The jobs of a table in the order of a file, as `pfs-plan --order` reads it."""
+    shop, path = shop_from(given), pathlib.Path(folder, "order")
+    path.write_bytes(content_from(given))
+    try:
+        return {"order": [*map(shop.job_name, order_in(path, shop).jobs)]}
+    except TableFault as fault:
+        raise Wrong(fault.text) from None
+
+
 # Plans
 
 def placed(plan: Plan, names: list[str], held: int) -> dict[str, list[str]]:
@@ -131,13 +177,14 @@ def placed(plan: Plan, names: list[str], held: int) -> dict[str, list[str]]:
 
 
 def plan_from(given: dict[str, Any]) -> tuple[Plan, dict[str, Any]]:
-    """The plan of a request, and what is said of it: the names of jobs that are gone or new, and whether what the page
-    remembers is of another table."""
-    plan = Plan(shop := shop_from(given))
+    """The plan of a request, and what is said of it: the names of jobs that are gone or new, and whether the bound that
+    the page remembers is of another table. One above a makespan is of another one."""
+    plan, least = Plan(shop := shop_from(given)), field(given, "least", int, 0, 2**53)
     said: dict[str, Any] = placed(plan, texts(given.get("order")), field(given, "held", int, 0, shop.jobs))
-    said["isOther"] = not plan.know(field(given, "least", int, 0, 2**53), field(given, "of", str, ""))
+    is_known = least <= plan.schedule.makespan and plan.know(least, field(given, "digest", str, ""))
+    said["isOther"] = not is_known
     # A line has a shift; a comma is between days and dates.
-    begin, shifts, days, closed = (field(field(given, "calendar", dict, {}), name, str, "").strip()
+    begin, shifts, days, closed = (plain(field(field(given, "calendar", dict, {}), name, str, "").strip())
                                    for name in ("begin", "shifts", "days", "closed"))
     plan.calendar = calendar_of(begin, [*filter(None, map(str.strip, shifts.split("\n")))], days, closed)
     # It can't name a file.
@@ -145,12 +192,21 @@ def plan_from(given: dict[str, Any]) -> tuple[Plan, dict[str, Any]]:
     return plan, said
 
 
+def plain(text: str) -> str:
+    """Dates, days and shifts as calendars read them, of such as Mo-Fr, 24.12.2026 and 6:00 - 14:30 with a long dash."""
+    text = re.sub("\\s*[-\u2010-\u2015]\\s*", "-", text)
+    text = re.sub(r"\b([0-9])(?=\.|:[0-9]{2})", r"0\1", text)
+    text = re.sub(r"\b([0-9]{2})\.([0-9]{2})\.([0-9]{4})\b", r"\3-\2-\1", text)
+    text = re.sub("(?<=-[0-9]{2}-[0-9]{2})-(?=[0-9]{4}-)", "..", text)
+    return re.sub(r"\b(mo|di|mi|do|fr|sa|so)\b", lambda each: DAY_OF[each[1].lower()], text, flags=re.IGNORECASE)
+
+
 def told(given: dict[str, Any], folder: str) -> dict[str, Any]:
     """What a plan comes to, with its chart, and the jobs that have moved from orders that were kept."""
     (plan, said), chart = plan_from(given), pathlib.Path(folder, "chart.html")
     jobs, (heads, *machines), (_, *end) = plan.jobs(), plan.machines(), plan.ends()
     plan.chart(str(chart), plan.shop.name or True)
-    return {**quality(plan), **said, "table": plan.table,
+    return {**quality(plan), **said,
             "end": end[0].removeprefix("end ") if end else "", "bottleneck": plan.report.bottleneck,
             "machines": machines, "heads": [*map(words_of(plan.language), heads)],
             "moved": [moved([name for name, *_ in jobs], texts(each)) for each in field(given, "kept", list, [])],

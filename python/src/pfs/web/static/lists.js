@@ -1,27 +1,28 @@
+export const byId = id => document.getElementById(id);
 // An element with a text, and its properties.
-function made(kind, text, parent, properties) {
+export function made(kind, text, parent, properties) {
   const element = Object.assign(document.createElement(kind), properties);
   if (text !== null) element.textContent = text;
   if (parent) parent.append(element);
   return element;
 }
 // A control, with a label for those who don't see it, and a key by which it gets the focus again.
-function control(kind, key, label, parent, properties) {
+export function control(kind, key, label, parent, properties) {
   const element = made(kind, null, parent, {title: label, ariaLabel: label, ...properties});
   element.dataset.key = key;
   return element;
 }
 // A row of a table. The cells after the first one have this class.
-function rowOf(cells, parent, kind = "td", className = "") {
+export function rowOf(cells, parent, kind = "td", className = "") {
   const row = made("tr", null, parent);
   cells.forEach((cell, at) => made(kind, cell, row, {className: at ? className : ""}));
   return row;
 }
 // The height of a row, and how many rows are drawn: a third of them before those that are seen.
 const HIGH = 32, DRAWN = 36;
-let isDrawing = false;
+export let isDrawing = false;
 // A list of many rows in a box, of which only those that are seen are drawn: `draw` makes a row. `head` makes the head.
-function listIn(box, draw, head) {
+export function listIn(box, draw, head) {
   const table = made("table", null, box), top = made("thead", null, table), body = made("tbody", null, table);
   let count, from;
   const space = rows => made("tr", null, null, {style: `height: ${rows * HIGH}px`});
@@ -52,7 +53,7 @@ function listIn(box, draw, head) {
     show(rows) {
       box.hidden = !rows;
       count = table.ariaRowCount = rows;
-      top.replaceChildren(...head ? [head()] : []);
+      top.replaceChildren(...head && rows ? [head()] : []);
       update(true);
     },
     // Scrolls to a row, and gives the focus to what has this key.
@@ -65,7 +66,7 @@ function listIn(box, draw, head) {
   };
 }
 // The name of a cell, as spreadsheets have it.
-function letters(column) {
+export function letters(column) {
   let text = "";
   for (; column; column = Math.floor((column - 1) / 26)) text = String.fromCharCode(65 + (column - 1) % 26) + text;
   return text;
