@@ -34,18 +34,19 @@ PYTEST = [*(APART if subprocess.run([*APART, "true"], capture_output=True).retur
           "-q", "-x", "-n0", "--timeout=60", f"--pfs={TOP}/crates/pfs/out/pfs", f"--libpfs={TOP}/lib/out/libpfs.so.1"]
 SIGNS = [getattr(ast, name) for name in ("Lt LtE Gt GtE Eq NotEq In NotIn Is IsNot And Or Add Sub Mult FloorDiv Div "
                                          "Mod BitOr BitAnd").split()]  # each two may be confused
+EXCHANGED = (ast.Expr, ast.Assign, ast.AugAssign, ast.If, ast.With, ast.For)
 CODECS = {"utf-8": "latin-1", "utf-8-sig": "utf-8", "latin-1": "utf-8", "ascii": "utf-8", "cp1252": "utf-8"}
 # Of each exception a wider one, and of some a narrower one.
-WIDER = {"FileNotFoundError": "OSError", "PermissionError": "OSError", "BlockingIOError": "OSError", "OSError": "Exception",
-         "KeyError": "LookupError", "IndexError": "LookupError", "UnicodeDecodeError": "ValueError",
-         "ValueError": "Exception", "TypeError": "Exception", "ImportError": "Exception", "LookupError": "Exception"}
+WIDER = {"FileNotFoundError": "OSError", "PermissionError": "OSError", "BlockingIOError": "OSError",
+         "OSError": "Exception", "KeyError": "LookupError", "IndexError": "LookupError",
+         "UnicodeDecodeError": "ValueError", "ValueError": "Exception", "TypeError": "Exception", "ImportError": "Exception", "LookupError": "Exception"}
 NARROWER = {"OSError": "FileNotFoundError", "ValueError": "UnicodeDecodeError", "LookupError": "KeyError",
             "ImportError": "ModuleNotFoundError", "Exception": "ValueError"}
 
 
 class Change(NamedTuple):
-    """What is in the place of the last of these nodes, each of which is in the one before: several, if it is a tuple, and
-    none if it is None. Of a list of statements the next one is replaced too."""
+    """What is in the place of the last of these nodes, each of which is in the one before: none if it is None, and
+    of a tuple of two statements those that are in the place of both."""
     module: str
     nodes: tuple[Any, ...]
     field: str
@@ -165,8 +166,7 @@ def confused(nodes: tuple[Any, ...], field: str, at: int) -> Iterator[Any]:
                     yield ast.Call(call, [*given[:first], given[first + 1], given[first], *given[first + 2:]], words)
         case ast.stmt() if before is not None and isinstance(block := getattr(before, field), list):
             after = block[at + 1] if at + 1 < len(block) else None
-            kinds = ast.Expr | ast.Assign | ast.AugAssign | ast.If | ast.With | ast.For
-            if isinstance(node, kinds) and isinstance(after, kinds):
+            if isinstance(node, EXCHANGED) and isinstance(after, EXCHANGED):
                 yield after, node
 
 
@@ -178,10 +178,16 @@ def imported(module: ast.Module) -> set[str]:
 
 
 def alike(nodes: tuple[Any, ...], name: str) -> list[str]:
-    """The other arguments of the function with the same type, or else its other variables made by the same call."""
-    functions = [each for each in nodes if isinstance(each, ast.FunctionDef)]
+    """The other variables of the same type in the function."""
+    kinds = kinds_of([each for each in nodes if isinstance(each, ast.FunctionDef | ast.Module)][-1])
+    return [other for other, kind in kinds.items() if other != name and kind == kinds.get(name)]
+
+
+@functools.cache
+def kinds_of(function: ast.FunctionDef | ast.Module) -> dict[str, str]:
+    """The types of arguments and variables, or else the calls that make them."""
     kinds: dict[str, str] = {}
-    for node in ast.walk(functions[-1]) if functions else ():
+    for node in ast.walk(function) if isinstance(function, ast.FunctionDef) else ():
         match node:
             case ast.arg(own, ast.expr() as kind) | ast.AnnAssign(ast.Name(own), kind):
                 kinds[own] = ast.unparse(kind)
@@ -189,7 +195,7 @@ def alike(nodes: tuple[Any, ...], name: str) -> list[str]:
                 kinds[own] = f"{ast.unparse(call)}()"
             case ast.Assign([ast.Tuple([*targets])]):
                 kinds |= {each.id: f"{node.lineno}" for each in targets if isinstance(each, ast.Name)}
-    return [other for other, kind in kinds.items() if other != name and kind == kinds.get(name)]
+    return kinds
 
 
 class Noted:
