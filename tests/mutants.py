@@ -39,8 +39,8 @@ CODECS = {"utf-8": "latin-1", "utf-8-sig": "utf-8", "latin-1": "utf-8", "ascii":
 # Of each exception a wider one, and of some a narrower one.
 WIDER = {"FileNotFoundError": "OSError", "PermissionError": "OSError", "BlockingIOError": "OSError",
          "OSError": "Exception", "KeyError": "LookupError", "IndexError": "LookupError",
-         "UnicodeDecodeError": "ValueError", "ValueError": "Exception", "TypeError": "Exception", "ImportError": "Exception",
-         "LookupError": "Exception"}
+         "UnicodeDecodeError": "ValueError", "ValueError": "Exception", "TypeError": "Exception",
+         "ImportError": "Exception", "LookupError": "Exception"}
 NARROWER = {"OSError": "FileNotFoundError", "ValueError": "UnicodeDecodeError", "LookupError": "KeyError",
             "ImportError": "ModuleNotFoundError", "Exception": "ValueError"}
 
