@@ -34,10 +34,20 @@ PYTEST = [*(APART if subprocess.run([*APART, "true"], capture_output=True).retur
           "-q", "-x", "-n0", "--timeout=60", f"--pfs={TOP}/crates/pfs/out/pfs", f"--libpfs={TOP}/lib/out/libpfs.so.1"]
 SIGNS = [getattr(ast, name) for name in ("Lt LtE Gt GtE Eq NotEq In NotIn Is IsNot And Or Add Sub Mult FloorDiv Div "
                                          "Mod BitOr BitAnd").split()]  # each two may be confused
+EXCHANGED = (ast.Expr, ast.Assign, ast.AugAssign, ast.If, ast.With, ast.For)
+CODECS = {"utf-8": "latin-1", "utf-8-sig": "utf-8", "latin-1": "utf-8", "ascii": "utf-8", "cp1252": "utf-8"}
+# Of each exception a wider one, and of some a narrower one.
+WIDER = {"FileNotFoundError": "OSError", "PermissionError": "OSError", "BlockingIOError": "OSError",
+         "OSError": "Exception", "KeyError": "LookupError", "IndexError": "LookupError",
+         "UnicodeDecodeError": "ValueError", "ValueError": "Exception", "TypeError": "Exception",
+         "ImportError": "Exception", "LookupError": "Exception"}
+NARROWER = {"OSError": "FileNotFoundError", "ValueError": "UnicodeDecodeError", "LookupError": "KeyError",
+            "ImportError": "ModuleNotFoundError", "Exception": "ValueError"}
 
 
 class Change(NamedTuple):
-    """What is in the place of the last of these nodes, each of which is in the one before; None if it is left out."""
+    """What is in the place of the last of these nodes, each of which is in the one before: none if it is None, and
+    of a tuple of two statements those that are in the place of both."""
     module: str
     nodes: tuple[Any, ...]
     field: str
@@ -49,7 +59,8 @@ class Change(NamedTuple):
         """The module with this change, or nothing if that isn't a program."""
         parent, before, new = self.nodes[-2], getattr(self.nodes[-2], self.field), self.new
         if isinstance(before, list):
-            new = [*before[:self.at], *([new] if new else []), *before[self.at + 1:]]
+            several = new if isinstance(new, tuple) else (new,) if new else ()
+            new = [*before[:self.at], *several, *before[self.at + max(1, len(several)):]]
         setattr(parent, self.field, new)
         try:
             compile(text := ast.unparse(self.nodes[0]), self.module, "exec")
@@ -75,7 +86,8 @@ def changes(module: str, nodes: tuple[Any, ...], field: str = "", at: int = 0) -
     match nodes[-1]:
         case ast.Expr(ast.Constant()) | ast.If(ast.Name("TYPE_CHECKING")) | ast.AnnAssign(_, ast.Name("TypeAlias")):
             return
-    yield from (Change(module, nodes, field, at, new) for new in others(nodes, field, at))
+    for new in itertools.chain(others(nodes, field, at), left_out(nodes, field, at), confused(nodes, field, at)):
+        yield Change(module, nodes, field, at, new)
     for field, value in ast.iter_fields(nodes[-1]):
         for at, node in enumerate(value if isinstance(value, list) else [value]):
             if isinstance(node, ast.AST) and field not in ("annotation", "returns"):
@@ -112,6 +124,79 @@ def others(nodes: tuple[Any, ...], field: str, at: int) -> Iterator[ast.AST | No
             yield inner
         case ast.Call(call, [one, other, *rest], words) if ast.unparse(call) not in ("max", "min", "math.gcd"):
             yield ast.Call(call, [other, one, *rest], words)
+
+
+def left_out(nodes: tuple[Any, ...], field: str, at: int) -> Iterator[ast.AST | None]:
+    """What is in the place of the last of these nodes if a part of it, which may be there for a second case, is left
+    out: a member, an operand, a call around a value, or the return of a guard."""
+    match [*nodes[-2:], field]:
+        case [ast.Tuple(members) | ast.List(members) | ast.Set(members), _, "elts"] if len(members) > 1 and all(
+                isinstance(each, ast.Constant | ast.Name | ast.Attribute) for each in members) and isinstance(
+                    getattr(nodes[-2], "ctx", ast.Load()), ast.Load):
+            yield None
+    match nodes[-1]:
+        case ast.BoolOp(sign, [*values]):
+            yield from (values[1 - out] if len(values) == 2 else ast.BoolOp(sign, values[:out] + values[out + 1:])
+                        for out in range(len(values)))
+        case ast.Call(ast.Name(), [inner], []) if not isinstance(inner, ast.Starred | ast.GeneratorExp):
+            yield inner
+        case ast.Call(ast.Attribute(ast.expr() as inner), _, _) if not (
+                isinstance(inner, ast.Name) and inner.id in imported(nodes[0])):
+            yield inner
+        case ast.If(_, [*_, ast.Return() | ast.Continue() | ast.Break()], []) if field in ("body", "orelse"):
+            yield ast.Pass()
+
+
+def confused(nodes: tuple[Any, ...], field: str, at: int) -> Iterator[Any]:
+    """What is in the place of the last of these nodes if it is taken for another: an encoding, a variable of the same
+    type, an exception, two arguments, or two statements."""
+    before, node = nodes[-2] if len(nodes) > 1 else None, nodes[-1]
+    match node:
+        case ast.Constant(str(value)) if value.lower() in CODECS:
+            yield ast.Constant(CODECS[value.lower()])
+        case ast.Call(ast.Attribute(_, "decode" | "encode"), [], []):
+            yield ast.Call(node.func, [ast.Constant("latin-1")], [])
+        case ast.Name(name, ast.Load()):
+            if any(isinstance(each, ast.ExceptHandler) and part is each.type for each, part in zip(nodes, nodes[1:])):
+                yield from (ast.Name(each[name], ast.Load()) for each in (WIDER, NARROWER) if name in each)
+            else:
+                yield from (ast.Name(each, ast.Load()) for each in alike(nodes, name))
+        case ast.Call(call, [*given], words):
+            for first in range(len(given) - 1):
+                if first or ast.unparse(call) in ("max", "min", "math.gcd"):  # the first two are exchanged anyway
+                    yield ast.Call(call, [*given[:first], given[first + 1], given[first], *given[first + 2:]], words)
+        case ast.stmt() if before is not None and isinstance(block := getattr(before, field), list):
+            after = block[at + 1] if at + 1 < len(block) else None
+            if isinstance(node, EXCHANGED) and isinstance(after, EXCHANGED):
+                yield after, node
+
+
+@functools.cache
+def imported(module: ast.Module) -> set[str]:
+    """The names of modules and of what is imported from them, of which no call is a method of a value."""
+    return {(each.asname or each.name).partition(".")[0] for node in ast.walk(module)
+            if isinstance(node, ast.Import | ast.ImportFrom) for each in node.names}
+
+
+def alike(nodes: tuple[Any, ...], name: str) -> list[str]:
+    """The other variables of the same type in the function."""
+    kinds = kinds_of([each for each in nodes if isinstance(each, ast.FunctionDef | ast.Module)][-1])
+    return [other for other, kind in kinds.items() if other != name and kind == kinds.get(name)]
+
+
+@functools.cache
+def kinds_of(function: ast.FunctionDef | ast.Module) -> dict[str, str]:
+    """The types of arguments and variables, or else the calls that make them."""
+    kinds: dict[str, str] = {}
+    for node in ast.walk(function) if isinstance(function, ast.FunctionDef) else ():
+        match node:
+            case ast.arg(own, ast.expr() as kind) | ast.AnnAssign(ast.Name(own), kind):
+                kinds[own] = ast.unparse(kind)
+            case ast.Assign([ast.Name(own)], ast.Call(call)):
+                kinds[own] = f"{ast.unparse(call)}()"
+            case ast.Assign([ast.Tuple([*targets])]):
+                kinds |= {each.id: f"{node.lineno}" for each in targets if isinstance(each, ast.Name)}
+    return kinds
 
 
 class Noted:
