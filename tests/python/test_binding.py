@@ -198,7 +198,8 @@ RESULTS: dict[str, Callable[[pfs.Instance], object]] = {
         *shop.makespans([[*range(12)], [*range(11, -1, -1)]])], "insert_all": lambda shop: [
         *shop.insert_all([0, 1], [2, 3]).jobs],
     "schedule": lambda shop: shop.schedule(range(12)).ends.tolist(),
-    "solve": lambda shop: shop.solve(20).order.tolist(), "local_search": lambda shop: [*shop.local_search(range(12)).jobs]}
+    "solve": lambda shop: shop.solve(20).order.tolist(),
+    "local_search": lambda shop: [*shop.local_search(range(12)).jobs]}
 
 
 @pytest.mark.parametrize("call", RESULTS.values(), ids=RESULTS)

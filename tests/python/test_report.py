@@ -27,7 +27,8 @@ from pfs.experiments import report as typed
 from pfs.experiments.statistics import common, holm
 
 HEAD = "instance,jobs,machines,rounds,take,passes,seed,repetition,makespan,bound,gap_percent,cells,seconds,status\n"
-# By hand, and no mean is a median. The best makespans are 101 of a, 103 of b and 200 of c, from which the RPD of a's first run is 900 / 101.
+# By hand, and no mean is a median. The best makespans are 101 of a, 103 of b and 200 of c, from which the RPD of a's
+# first run is 900 / 101.
 REPORTED = HEAD + """a,20,5,0,4,0,1,1,110,100,10.0000,1000,0.001000,ok
 b,20,5,0,4,0,1,1,120,100,20.0000,1000,0.003000,ok
 a,20,5,100,4,0,1,1,101,100,1.0000,100000,0.100000,ok
@@ -515,8 +516,8 @@ def test_the_table_of_sizes_has_each_method_and_published_mean(report: Reported,
             ("c", 50, 2, 104)))).status == 0
     lines = sizes.with_suffix(".md").read_text().splitlines()
     assert lines[2:] == ["| 20×5 | 1.250 ± 0.354 |", "| 50×5 | 2.000 ± 2.828 |", "| mean | 1.625 |", "",
-                         "Mean RPD, %, relative to the best makespan of any of these runs. Instances: 20×5 2, 50×5 1; "
-                         "2 seeds: the mean of their means ± its standard deviation; time factor 2; pfs "
+                         "Mean RPD, %, relative to the best makespan of any of these runs. Instances: 20×5 2, 50×5 "
+                         "1; 2 seeds: the mean of their means ± its standard deviation; time factor 2; pfs "
                          f"{pfs.__version__}. Not audited, only stated: out."]
     assert cells_of(sizes)[1:] == [["20×5", "1.250"], ["50×5", "2.000"], ["mean", "1.625"]]
 
