@@ -103,7 +103,7 @@ def test_one_reader_of_orders(order: str, tmp_path: pathlib.Path) -> None:
     if prefix or "." not in order:
         (tmp_path / "order").write_text(order)
         shop = pfs.read_csv(tmp_path / "times.csv") if prefix else pfs.Instance(SMALL.times, job_names=["1", "2", "3"])
-        assert order_in(tmp_path / "order", shop) == ([1, 0, 2], {})
+        assert order_in(tmp_path / "order", shop)[:2] == ([1, 0, 2], {})
 
 
 @pytest.mark.parametrize("order", [[2, 1, 3], (2.0, 1.0, 3.0), np.array([2.0, 1.0, 3.0]), np.array([2, 1, 3], np.uint8),

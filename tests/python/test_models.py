@@ -49,10 +49,10 @@ def test_a_table_that_is_written_is_read_again(folder: pathlib.Path, shop: pfs.I
                                                mark: bool) -> None:
     """With its names, its unit and its times. It is read as its order too, and a schedule of it."""
     assert_is_read_again(folder / "table", shop, delimiter, mark)
-    assert order_in(folder / "table", shop) == ([*range(shop.jobs)], {})
+    assert order_in(folder / "table", shop)[:2] == ([*range(shop.jobs)], {})
     order = [*range(shop.jobs)][::-1]
     shop.schedule(order).to_csv(folder / "order", delimiter, mark=mark)
-    assert order_in(folder / "order", shop) == (order, {})
+    assert order_in(folder / "order", shop)[:2] == (order, {})
 
 
 @pytest.mark.parametrize("delimiter", ";,\t")

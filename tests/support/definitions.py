@@ -205,7 +205,8 @@ def functions_of(crate: pathlib.Path) -> Iterator[tuple[str, str, str]]:
                 shown = {owner} if is_member else {name} if "pub" in head else set()
                 if "extern" in head or shown - {""} and (is_in(path, modules) or shown & names):
                     comment = " ".join(line.strip().removeprefix("///").strip() for line in above.splitlines())
-                    yield file, f"{owner}::{name}" if is_member else name, comment.replace("|", "\\|")
+                    plain = re.sub(r"\[(`[^`]*`)\]\([^)]*\)", r"\1", comment).replace("|", "\\|")
+                    yield file, f"{owner}::{name}" if is_member else name, plain
 
 
 def functions_page(crates: pathlib.Path) -> str:

@@ -89,7 +89,8 @@ class Causes:
         elif stated == shop.bound():
             yield "that is the lower bound"
         yield from written(stated, makespan)
-        yield from self.of_other_models(shop, stated, jobs)
+        if abs(stated - makespan) > 1:
+            yield from self.of_other_models(shop, stated, jobs)
 
     def of_other_models(self, shop: Instance, stated: int, jobs: list[int]) -> Iterator[str]:
         """Yield what else an order may have been computed as."""

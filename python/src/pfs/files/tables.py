@@ -29,7 +29,7 @@ LINE = re.compile(r"[^\r\n]*(?:\r\n?|\n)|[^\r\n]+")
 QUOTED = re.compile(r'(?:^|(?<=[,;\t\r])) *(?:"[^"]*")+', re.MULTILINE)
 # A time for each piece: the unit of its time in a unit in brackets, and words in a name.
 PIECE = r"(?:stk|st(?:\u00fc|ue)ck|st|teil|pcs?|pieces?|parts?|units?|ea(?:ch)?)\b\.?"
-PER_PIECE = re.compile(rf"(.*?)\s*(?:/|\bje\b|\bpro\b|\bper\b)\s*{PIECE}", re.IGNORECASE)
+PER_PIECE = re.compile(rf"(?:/|\bje\b|\bpro\b|\bper\b)\s*{PIECE}", re.IGNORECASE)
 # A unit in brackets at the end of a name.
 UNIT = re.compile(r"[\[(]([^\[\]()]+)[\])]\Z")
 NUMBER = re.compile(r"([0-9]{1,20})(?:([.,])([0-9]{1,20}))?\Z")
@@ -615,8 +615,9 @@ def names_in(table: Rows, cells: Iterable[Cell], what: str) -> list[str]:
 def unit_in(text: str) -> str:
     """The text in brackets at the end of a name; of a time for each piece its unit."""
     found = UNIT.search(text)
-    piece = PER_PIECE.fullmatch(found[1].strip()) if found else None
-    return piece[1] if piece else found[1].strip() if found else ""
+    unit = found[1].strip() if found else ""
+    piece = PER_PIECE.search(unit)
+    return unit[:piece.start()].rstrip() if piece and piece.end() == len(unit) else unit
 
 
 def kind_of(unit: str) -> tuple[int, bool] | None:
