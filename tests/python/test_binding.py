@@ -206,7 +206,8 @@ RESULTS: dict[str, Callable[[pfs.Instance], object]] = {
 def test_what_is_given_back_is_used_at_once_by_another_call(call: Callable[[pfs.Instance], object]) -> None:
     """As that of another thread may. The results of the first call are read before."""
     shop, due = pfs.generate(12, 4, 1), call(pfs.generate(12, 4, 1))
-    others = [lambda: shop.makespan([3]), lambda: shop.best_place([5, 6, 7], 2), lambda: shop.places(range(11), 11)]
+    others: list[Callable[[], object]] = [
+        lambda: shop.makespan([3]), lambda: shop.best_place([5, 6, 7], 2), lambda: shop.places(range(11), 11)]
 
     class Given(list[Any]):
         def append(self, prepared: Any) -> None:
