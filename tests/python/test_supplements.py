@@ -322,8 +322,10 @@ def test_a_column_by_name(tmp_path: pathlib.Path) -> None:
 
 
 def test_methods_side_by_side_that_lack_a_column(tmp_path: pathlib.Path) -> None:
-    with pytest.warns(UserWarning, match="the column 'Cmax NEH' is left out: it has no orders"):
-        rows = audited("Problem,Cmax NEH,Cmax IG,Order IG,Cmax GA,Order GA\nsmall,1,10,2 1 3,11,1 2 3\n", tmp_path)
+    left_out = "the column 'Cmax NEH' is left out: it has no orders; the columns 'Order TS', 'Order SA' are left out: th"
+    with pytest.warns(UserWarning, match=left_out):
+        rows = audited("Problem,Cmax NEH,Cmax IG,Order IG,Cmax GA,Order GA,Order TS,Order SA\n"
+                       "small,1,10,2 1 3,11,1 2 3,2 1 3,2 1 3\n", tmp_path)
     assert [row[1:4] for row in rows] == [("small", "IG", "valid and optimal"), ("small", "GA", "valid")]
 
 

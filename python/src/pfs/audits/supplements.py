@@ -211,13 +211,15 @@ def table_in(lines: list[Line], path: str, sheet: str, named: Mapping[str, str])
 
 
 def note_of(head: list[str], made: list[Columns]) -> str:
-    """Return which columns with makespans have no orders."""
-    used = {at for columns in made for at in columns.places.values()}
-    lone = [repr(name) for at, name in enumerate(head) if at not in used and meaning(name)[0] == "makespan"]
-    if not lone:
-        return ""
-    return (f"the columns {', '.join(lone)} are left out: they have" if lone[1:] else
-            f"the column {lone[0]} is left out: it has") + " no orders"
+    """Return which columns with makespans have no orders, and the other way round."""
+    used = {at for columns in made for at in [*columns.places.values(), *columns.jobs]}
+    found = []
+    for role, lacks in (("makespan", "orders"), ("order", "makespans")):
+        lone = [repr(name) for at, name in enumerate(head) if at not in used and meaning(name)[0] == role]
+        if lone:
+            found.append((f"the columns {', '.join(lone)} are left out: they have" if lone[1:] else
+                          f"the column {lone[0]} is left out: it has") + f" no {lacks}")
+    return "; ".join(found)
 
 
 # LaTeX
