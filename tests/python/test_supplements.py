@@ -322,7 +322,7 @@ def test_a_column_by_name(tmp_path: pathlib.Path) -> None:
 
 
 def test_methods_side_by_side_that_lack_a_column(tmp_path: pathlib.Path) -> None:
-    left_out = "the column 'Cmax NEH' is left out: it has no orders; the columns 'Order TS', 'Order SA' are left out: th"
+    left_out = "'Cmax NEH' is left out: it has no orders; the columns 'Order TS', 'Order SA' are left out: they have no"
     with pytest.warns(UserWarning, match=left_out):
         rows = audited("Problem,Cmax NEH,Cmax IG,Order IG,Cmax GA,Order GA,Order TS,Order SA\n"
                        "small,1,10,2 1 3,11,1 2 3,2 1 3,2 1 3\n", tmp_path)
