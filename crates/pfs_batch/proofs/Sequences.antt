@@ -4,7 +4,7 @@ use Rattle.std.proofs.Math.Nat.{mul-le-mul_right}
 use Rattle.std.proofs.lemmas.Bool.{cases_lt}
 use Rattle.std.proofs.lemmas.List.{get_or_past, get_or-take, get_or-drop, length-drop, length-take-le}
 use Rattle.pfs_order.specs.Sequence.{IsSequence}
-use Rattle.pfs_batch.specs.Many.{sequence_at}
+use Rattle.pfs_batch.specs.SequenceLists.{sequence_at}
 use Rattle.pfs_batch.specs.Private.Ends.{IsZeroFrom}
 
 module _ (sequences : List ℕ) (len count index : ℕ) (within : index < count) (room : count * len ≤ length sequences) where

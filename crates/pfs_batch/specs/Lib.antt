@@ -1,3 +1,3 @@
 pub mod Examples
-pub mod Many
+pub mod SequenceLists
 pub mod Private

@@ -4,7 +4,7 @@ ghost use Rattle.std.specs.Prelude.{IfOk, IsTrue, MatchOption, ◌↔◌};
 ghost use Rattle.std.specs.List.{All};
 ghost use Rattle.pfs_base.specs.Paths.{makespan};
 ghost use Rattle.pfs_order.specs.Sequence.{IsSequence};
-ghost use Rattle.pfs_batch.specs.Many.{sequence_at};
+ghost use Rattle.pfs_batch.specs.SequenceLists.{sequence_at};
 ghost use Rattle.pfs_batch.specs.Private.Ends.{IsZeroFrom};
 
 use crate::lanes::Lanes;

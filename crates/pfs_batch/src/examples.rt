@@ -3,7 +3,7 @@ ghost use Rattle.std.specs.Prelude.{◌≡◌, [], ◌∷◌};
 ghost use Rattle.pfs_base.specs.Paths.{makespan};
 ghost use Rattle.pfs_base.specs.Shops.{three_jobs};
 ghost use Rattle.pfs_batch.specs.Examples.{eight_orders};
-ghost use Rattle.pfs_batch.specs.Many.{sequence_at};
+ghost use Rattle.pfs_batch.specs.SequenceLists.{sequence_at};
 
 /// The second of the orders and the last one, and their makespans.
 pub fn orders()

@@ -3,8 +3,8 @@ use Rattle.std.proofs.Common.{◌≡◌, ℕ, ◌+◌, ◌-◌, ◌*◌, ◌<◌
 use Rattle.std.proofs.Common.{Err, Option, Some, None}
 use Rattle.pfs_c.specs.declared.numbers.CallFault.{CallFault}
 use Rattle.pfs_c.specs.Validation.{jobs_fault}
-use Rattle.pfs_batch.specs.Many.{sequence_at}
-use Rattle.pfs_c.specs.Many.{sequences_fault}
+use Rattle.pfs_batch.specs.SequenceLists.{sequence_at}
+use Rattle.pfs_c.specs.Makespans.{sequences_fault}
 use Rattle.pfs_c.specs.Private.Outcomes.{Validates}
 use Rattle.pfs_c.proofs.Jobs.{first_below}
 

@@ -4,7 +4,7 @@ pub mod HeadsTails
 pub mod Inserting
 pub mod Iterating
 pub mod Validation
-pub mod Many
+pub mod Makespans
 pub mod Numbers
 pub mod Private
 pub mod Proving

@@ -13,7 +13,7 @@ ghost use Rattle.pfs_search.specs.Solution.{IsImproved, IsNeh};
 ghost use Rattle.pfs_search.specs.Greedy.{passes_over};
 ghost use Rattle.pfs_c.specs.Inserting.{AreInsertions, insertions_fault};
 ghost use Rattle.pfs_c.specs.Iterating.{or_ties_fault};
-ghost use Rattle.pfs_c.specs.Many.{AreMakespans, makespans_fault};
+ghost use Rattle.pfs_c.specs.Makespans.{AreMakespans, makespans_fault};
 ghost use Rattle.pfs_c.specs.Searching.{rounds_fault};
 ghost use Rattle.pfs_c.specs.Validation.{insertion_fault};
 ghost use Rattle.pfs_c.specs.Private.Outcomes.{Validates};

@@ -2,9 +2,9 @@
 ghost use Rattle.std.specs.Prelude.{◌≡◌, ℕ, ◌+◌, ◌*◌, ◌<◌, ◌≤◌, ◌^◌, [], ◌∷◌, length, slice_index, IfOk, IfSome};
 ghost use Rattle.pfs_base.specs.Lists.{first_some};
 ghost use Rattle.pfs_base.specs.Paths.{makespan};
-ghost use Rattle.pfs_batch.specs.Many.{sequence_at};
+ghost use Rattle.pfs_batch.specs.SequenceLists.{sequence_at};
 ghost use Rattle.pfs_order.specs.Sequence.{IsSequence};
-ghost use Rattle.pfs_c.specs.Many.{AreMakespans, sequences_fault};
+ghost use Rattle.pfs_c.specs.Makespans.{AreMakespans, sequences_fault};
 ghost use Rattle.pfs_c.specs.Validation.{length_fault};
 ghost use Rattle.pfs_c.specs.Private.Outcomes.{Validates};
 

@@ -7,7 +7,7 @@ ghost use Rattle.pfs_base.specs.Paths.{makespan};
 ghost use Rattle.pfs_insert.specs.Inserter.{IsBestPlace};
 ghost use Rattle.pfs_c.specs.HeadsTails.{AreRowHeads, AreRowTails, heads_tails_fault};
 ghost use Rattle.pfs_c.specs.Inserting.{AreInsertions, insertions_fault};
-ghost use Rattle.pfs_c.specs.Many.{AreMakespans, makespans_fault};
+ghost use Rattle.pfs_c.specs.Makespans.{AreMakespans, makespans_fault};
 ghost use Rattle.pfs_c.specs.Numbers.{Returns, number_returned};
 ghost use Rattle.pfs_c.specs.Tables.{EndAfterTimes, table_entry, table_fault};
 ghost use Rattle.pfs_c.specs.Validation.{insertion_fault, jobs_fault, on_shop};

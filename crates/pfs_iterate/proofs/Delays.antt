@@ -1,6 +1,6 @@
 -- Heads of a sequence with an inserted job, and their sums over the machines.
 use Rattle.std.proofs.Common.{◌≡◌, ℕ, zero, suc, ◌+◌, ◌-◌, ◌*◌, ◌<◌, ◌≤◌, List, length, get_or, insert, take, sum_by}
-use Rattle.std.proofs.Common.{sym, ap, ap₂, ◌∙◌, inl, inr, add-one, arith}
+use Rattle.std.proofs.Common.{max, refl, sym, ap, ap₂, ◌∙◌, inl, inr, add-one, arith}
 use Rattle.std.specs.List.{range_with_len}
 use Rattle.std.proofs.lemmas.Bool.{cases_eq, cases_lt}
 use Rattle.std.proofs.lemmas.List.{get_or-take, length-take-le, take_all}
@@ -10,7 +10,8 @@ use Rattle.pfs_base.specs.FlowShop.{FlowShop, IsWithin, time_of}
 use Rattle.pfs_base.specs.Heads.{head_of}
 use Rattle.pfs_base.specs.Limits.{limits}
 use Rattle.pfs_base.specs.Paths.{operation}
-use Rattle.pfs_base.proofs.Published.HeadRows.{head_of-le, head_of-same, head_of-step}
+use Rattle.pfs_base.specs.declared.bench.TheConstants.{SPAN_MAX}
+use Rattle.pfs_base.proofs.Published.HeadRows.{head_of-le, head_of-same, head_of-step, head_of_before, heads_fit, next_head}
 use Rattle.pfs_audit.proofs.Published.Ranges.{sum_by-below-more, sum_by-below-suc}
 use Rattle.pfs_iterate.specs.Laws.{DelayLaw}
 use Rattle.pfs_iterate.specs.Iterated.{count_to, total_delay}
@@ -61,6 +62,39 @@ count_inside jobs place inside = omega arith
 
 pub count_end : (jobs : List ℕ) (place : ℕ) → place ≡ length jobs → count_to jobs place ≡ place
 count_end jobs place at = omega (arith, at)
+
+-- what a loop over the machines computes of the job at the place, or of the inserted one if none is behind it
+module _ (shop : FlowShop) (jobs : List ℕ) (job place : ℕ) (within : place ≤ length jobs) (machine end before : ℕ)
+    (end_is : end ≡ head_of shop (insert jobs place job) (place + 1) machine)
+    (before_is : before ≡ head_of_before shop (insert jobs place job) (count_to jobs place + 1) machine) where
+  abbrev inserted : List ℕ
+  inserted = insert jobs place job
+
+  last : (machine : ℕ) → head_of_before shop inserted (place + 1) machine ≤ head_of shop inserted (place + 1) machine
+  last zero = omega arith
+  last (suc machine) = rw add-one (omega (arith, head_of-step shop inserted place (suc machine)))
+
+  pub next_end_is : (time : ℕ) → (place < length jobs → time ≡ operation shop jobs place machine)
+      → (length jobs ≤ place → time ≡ 0) → max end before + time ≡ head_of shop inserted (count_to jobs place + 1) machine
+  next_end_is time inside past =
+      elim (cases_lt place (length jobs)) [
+        | inl lt ↦
+            let count = count_inside jobs place lt in
+            let two : place + 1 + 1 ≡ place + 2 = omega arith in
+            rw (count, two) (next_head shop inserted (place + 1) (place + 2) machine end before time (omega arith) end_is
+            (rw (count, two) at before_is) (inside lt ∙ sym (next_at shop jobs job place within place machine (omega arith))))
+        | inr le ↦
+            let count = count_end jobs place (omega arith) in
+            rw count (omega (arith, end_is, rw count at before_is, last machine, past le))
+      ]
+
+  pub ends_fit : IsWithin limits shop → length jobs ≤ shop.jobs → machine < shop.machines
+      → (end ≤ SPAN_MAX) × (before ≤ SPAN_MAX)
+  ends_fit limited few lt = (
+    (heads_fit shop limited inserted (place + 1) (place + 2) machine end _ (omega arith) (omega arith) lt end_is refl).0,
+    (heads_fit shop limited inserted (count_to jobs place) (count_to jobs place + 1) machine _ before (omega arith)
+        (omega arith) lt refl before_is).1,
+  )
 
 pub delay_law : DelayLaw
 delay_law shop jobs job place machine within =

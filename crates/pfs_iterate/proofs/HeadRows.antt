@@ -51,19 +51,11 @@ module _ (shop : FlowShop) (jobs rows : List ℕ) (are : AreRows shop jobs rows)
         ];
       }
 
-  -- the entries of a row, and of the next one
+  -- the entries of a row
   pub head_at : (place machine machines : ℕ) → machines ≡ shop.machines → place ≤ length jobs → machine < shop.machines
       → get_or rows (place * machines + machine) 0 ≡ head_of shop jobs place machine
   head_at place machine machines all within lt =
       ap (λ m. get_or rows (place * m + machine) 0) all ∙ are.each place machine within lt
-
-  pub head_after : (place machine machines : ℕ) → machines ≡ shop.machines → place < length jobs → machine < shop.machines
-      → get_or rows (place * machines + machines + machine) 0 ≡ head_of shop jobs (place + 1) machine
-  head_after place machine machines all within lt =
-      let row : (place + 1) * shop.machines ≡ place * shop.machines + shop.machines =
-      ap (λ p. p * shop.machines) (add-one place) ∙ suc-mul place shop.machines in
-      ap (λ m. get_or rows (place * m + m + machine) 0) all ∙ ap (λ at. get_or rows (at + machine) 0) (sym row)
-      ∙ are.each (place + 1) machine (omega (arith, within)) lt
 
 -- a job at a place before which the rows have the heads
 module _ (shop : FlowShop) (jobs rows : List ℕ) (are : AreRows shop jobs rows) (job place : ℕ) (within : place ≤ length jobs)

@@ -1,12 +1,17 @@
 //! Heads of a sequence, and how much later an insertion makes what is behind it end.
-ghost use Rattle.std.specs.Prelude.{◌≡◌, ◌+◌, ◌<◌, ◌≤◌, ◌++◌, [], ◌∷◌, length, take as front, IfOk};
+ghost use Rattle.std.specs.Prelude.{◌≡◌, ℕ, ◌+◌, ◌<◌, ◌≤◌, ◌++◌, [], ◌∷◌, length, slice_index, take as front, IfOk};
+ghost use Rattle.std.specs.List.{All, slice_index_or};
+ghost use Rattle.pfs_base.specs.FlowShop.{time_of};
 ghost use Rattle.pfs_order.specs.Sequence.{IsSequence};
 ghost use Rattle.pfs_iterate.specs.Private.Memory.{AreHeads, AreRows};
 ghost use Rattle.pfs_iterate.specs.Iterated.{total_delay};
 
-use pfs_base::Instance;
 use pfs_base::heads::{end_after, times_of};
+use pfs_base::{Instance, MOST_MACHINES};
 use std::alloc::{AllocError, Global};
+
+// The times of no job.
+static NO_TIMES: [u32; MOST_MACHINES] = [0; MOST_MACHINES];
 
 /// The heads of some jobs in sequence: a row of zeros, and then for each job the ends of the jobs so far.
 #[derive(Drop)]
@@ -54,11 +59,7 @@ impl Heads {
         requires place { place ≤ length self.now.jobs.items }
         ensures { result ≡ total_delay instance.now.shop self.now.jobs.items job place }
     {
-        if place == self.jobs.len() {
-            delay_at_end(instance, &self.jobs, &self.rows, job)
-        } else {
-            delay_before(instance, &self.jobs, &self.rows, job, place)
-        }
+        delay_at(instance, &self.jobs, &self.rows, job, place)
     }
 }
 
@@ -95,43 +96,43 @@ fn add_row(instance: &Instance, jobs: &[u32], job: usize, rows: &mut [u64])
     }
 }
 
-// How much later, summed over the machines, a job at the end makes these end.
-fn delay_at_end(instance: &Instance, jobs: &[u32], rows: &[u64], job: usize) -> u64
+// How much later, summed over the machines, the job at a place ends if another job is inserted before it; at the end, how
+// much later all of these do.
+fn delay_at(instance: &Instance, jobs: &[u32], rows: &[u64], job: usize, place: usize) -> u64
     requires rows { AreRows instance.now.shop jobs.now rows.now }
     requires job { job < instance.now.shop.jobs }
-    ensures { result ≡ total_delay instance.now.shop jobs.now job (length jobs.now) }
-{
-    let machines = instance.machines();
-    let times = times_of(instance, job);
-    let above = jobs.len() * machines;
-    let (mut end, mut now, mut before) = (0, 0, 0);
-    for machine in 0..machines {
-        let ended = rows[above + machine];
-        end = end_after(ended, end, times[machine]);
-        now += end;
-        before += ended;
-    }
-    now - before
-}
-
-// How much later, summed over the machines, the job at a place ends if another job is inserted before it.
-fn delay_before(instance: &Instance, jobs: &[u32], rows: &[u64], job: usize, place: usize) -> u64
-    requires rows { AreRows instance.now.shop jobs.now rows.now }
-    requires job { job < instance.now.shop.jobs }
-    requires place { place < length jobs.now }
+    requires place { place ≤ length jobs.now }
     ensures { result ≡ total_delay instance.now.shop jobs.now job place }
 {
     let machines = instance.machines();
     let times = times_of(instance, job);
-    let next_times = times_of(instance, jobs[place] as usize);
+    let next_times = times_at(instance, jobs, place);
     let above = place * machines;
+    let below = (place + 1).min(jobs.len()) * machines;
     let (mut end, mut next_end, mut now, mut before) = (0, 0, 0, 0);
     for machine in 0..machines {
-        let ended = rows[above + machines + machine];
+        let ended = rows[below + machine];
         end = end_after(rows[above + machine], end, times[machine]);
         next_end = end_after(end, next_end, next_times[machine]);
         now += next_end;
         before += ended;
     }
     now - before
+}
+
+// The times of the job at a place, or of no job after the last one.
+#[inline(always)]
+fn times_at<'a>(instance: &'a Instance, jobs: &[u32], place: usize) -> &'a [u32]
+    requires { All (λ job. job < instance.now.shop.jobs) jobs.now }
+    ensures long { length result.now ≡ instance.now.shop.machines }
+    ensures inside { (machine : ℕ) → machine < instance.now.shop.machines → place < length jobs.now
+        → slice_index result.now machine ≡ time_of instance.now.shop (slice_index_or jobs.now place 0) machine }
+    ensures end { (machine : ℕ) → machine < instance.now.shop.machines → length jobs.now ≤ place
+        → slice_index result.now machine ≡ 0 }
+{
+    if place < jobs.len() {
+        times_of(instance, jobs[place] as usize)
+    } else {
+        &NO_TIMES[..instance.machines()]
+    }
 }

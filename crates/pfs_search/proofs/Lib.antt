@@ -1,6 +1,7 @@
 pub mod Published
 pub mod Found
 pub mod InTurn
+pub mod Moving
 pub mod NoLonger
 pub mod OneRanking
 pub mod Parts

@@ -1,6 +1,6 @@
 use Rattle.std.proofs.Common.{◌≡◌, ℕ, ◌+◌, ◌*◌, ◌<◌, length, get_or, IfSome}
 use Rattle.pfs_base.specs.Paths.{makespan}
-use Rattle.pfs_batch.specs.Many.{sequence_at}
+use Rattle.pfs_batch.specs.SequenceLists.{sequence_at}
 use Rattle.pfs_c.proofs.many.fill_makespans.Given as goal
 
 abbrev pub invariant-loop-group : goal.invariant-loop-group

@@ -1,5 +1,5 @@
 use Rattle.std.proofs.Common.{◌≡◌, refl, arith, rules, Err}
-use Rattle.pfs_batch.specs.Many.{sequence_at}
+use Rattle.pfs_batch.specs.SequenceLists.{sequence_at}
 use Rattle.pfs_c.specs.Validation.{jobs_fault}
 use Rattle.pfs_c.proofs.Jobs.{jobs_right, none_below}
 use Rattle.pfs_c.proofs.ManyLemmas.{one_wrong}

@@ -1,6 +1,6 @@
 use Rattle.std.proofs.Common.{◌≡◌, ℕ, ◌<◌, None}
 use Rattle.pfs_c.specs.Validation.{jobs_fault}
-use Rattle.pfs_batch.specs.Many.{sequence_at}
+use Rattle.pfs_batch.specs.SequenceLists.{sequence_at}
 use Rattle.pfs_c.proofs.many.validate_many.Given as goal
 
 abbrev pub invariant-loop-index : goal.invariant-loop-index

@@ -3,7 +3,7 @@ use Rattle.std.specs.Prelude.{◌≡◌, ℕ, ◌*◌, ◌<◌, List, [], ◌∷
 use Rattle.pfs_base.specs.FlowShop.{FlowShop}
 use Rattle.pfs_base.specs.Lists.{below, first_some}
 use Rattle.pfs_base.specs.Paths.{makespan}
-use Rattle.pfs_batch.specs.Many.{sequence_at}
+use Rattle.pfs_batch.specs.SequenceLists.{sequence_at}
 use Rattle.pfs_c.specs.declared.numbers.CallFault.{CallFault}
 use Rattle.pfs_c.specs.Validation.{length_fault, jobs_fault}
 
