@@ -1,4 +1,4 @@
-use Rattle.std.proofs.Common.{◌≡◌, ℕ, List, ◌<◌, ◌≤◌, ◌+◌, ◌-◌, ◌*◌, ◌∙◌, length, get_or, insert, ap, ap₂, sym, sum_by, arith}
+use Rattle.std.proofs.Common.{◌≡◌, ℕ, List, ◌<◌, ◌+◌, ◌-◌, ◌*◌, ◌∙◌, get_or, insert, ap, ap₂, sym, sum_by, arith}
 use Rattle.pfs_base.specs.FlowShop.{FlowShop}
 use Rattle.pfs_base.specs.Heads.{head_of}
 use Rattle.pfs_base.specs.Lists.{below}
