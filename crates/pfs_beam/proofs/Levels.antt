@@ -109,7 +109,7 @@ pub whole_next : (forward : Bool) (shop : FlowShop) (goal first end place many :
 whole_next forward shop goal first end place many nodes next children some few is within every are listed grown whole =
     record {
       bounded = λ number e small.
-          let zero_child : Child = record { idle = 0; node = 0; job = 0; place = 0 } in
+          let zero_child : Child = record { key = 0; node = 0; job = 0; idle = 0; place = 0 } in
           let child : Child = get_or children number zero_child in
           let here = are number zero_child small in
           let node = get_or nodes child.node e in
