@@ -3,7 +3,7 @@ ghost use Rattle.std.specs.Prelude.{◌≡◌, ◌-◌, ◌^◌, ◌<◌, ◌≤
 
 use crate::costs::{Costs, costs_at, costs_of};
 use pfs_base::heads::times_of;
-use pfs_base::{Instance, MOST_MACHINES, Shop};
+use pfs_base::{Instance, MOST_MACHINES};
 use std::alloc::{AllocError, Global};
 use std::marker::Model;
 
@@ -51,12 +51,11 @@ impl Guide {
         ensures { IfOk result (λ guide. guide ≡ instance.now.shop.jobs) }
     {
         let jobs = instance.jobs();
-        let bench = instance.metered();
         let mut likes = Vec::with_capacity(alloc, jobs)?;
         let mut totals = Vec::with_capacity(alloc, jobs)?;
         let mut all: u64 = 0;
         for job in 0..jobs {
-            let total = bench.total(job);
+            let total = total_of(instance, job);
             likes.push_reserved(first_like(instance, job));
             totals.push_reserved(total);
             all = all.saturating_add(total);
@@ -133,6 +132,17 @@ fn first_like(instance: &Instance, job: usize) -> usize
         }
     }
     job
+}
+
+// The sum of a job's times.
+fn total_of(instance: &Instance, job: usize) -> u64
+    requires { job < instance.now.shop.jobs }
+{
+    let mut total: u64 = 0;
+    for time in times_of(instance, job) {
+        total = total.saturating_add(u64::from(*time));
+    }
+    total
 }
 
 // A number that looks random (SplitMix64: Steele, Lea and Flood 2014).
