@@ -1,6 +1,6 @@
 //! The recursion.
 ghost use Rattle.std.specs.Prelude.{◌≡◌, ℕ, ◌+◌, ◌-◌, ◌<◌, ◌≤◌, [], ◌∷◌, ◌++◌, length, slice_index, OnOk};
-ghost use Rattle.pfs_exact.specs.MostNodes.{most_nodes};
+ghost use Rattle.pfs_exact.specs.MostNodes.{most_more, most_nodes};
 ghost use Rattle.pfs_exact.specs.Private.Nodes.{AreEnds, Continues, Every, IsDone, IsNode, IsWork, NoneShorter};
 
 use crate::children::{CLOSED, Room, children_of};
@@ -57,6 +57,8 @@ pub(crate) fn branch(
         ++ record { front = work.old.ends.front; back = work.old.ends.back; bound = bound } ∷ []) }
     ensures few { OnOk result (work.old.left ≤ work.new.left + most_nodes (instance.now.shop.jobs
         - (length work.old.ends.front.jobs + length work.old.ends.back.jobs))) }
+    ensures room { OnOk result (length work.new.parts.items ≤ length work.old.parts.items + 1 + most_more
+        (instance.now.shop.jobs - (length work.old.ends.front.jobs + length work.old.ends.back.jobs))) }
     ensures done { OnOk result (Every instance.now.shop (IsDone instance.now.shop work.new)
         work.old.ends.front.jobs work.old.ends.back.jobs) }
 {

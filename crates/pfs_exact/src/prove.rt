@@ -1,8 +1,8 @@
 //! The search of a user.
-ghost use Rattle.std.specs.Prelude.{◌≡◌, ℕ, ◌+◌, ◌<◌, ◌≤◌, ◌-◌, [], ◌∷◌, ◌++◌, length, min, All, IfOk, OnErr, OnOk, vec_len};
+ghost use Rattle.std.specs.Prelude.{◌≡◌, ℕ, ◌+◌, ◌*◌, ◌/◌, ◌<◌, ◌≤◌, ◌-◌, [], ◌∷◌, ◌++◌, length, min, All, IfOk, OnErr, OnOk, vec_len};
 ghost use Rattle.pfs_base.specs.Paths.{makespan};
 ghost use Rattle.pfs_audit.specs.Bound.{bound_of, IsLowerBound};
-ghost use Rattle.pfs_exact.specs.MostNodes.{most_nodes};
+ghost use Rattle.pfs_exact.specs.MostNodes.{most_more, most_nodes};
 ghost use Rattle.pfs_order.specs.Sequence.{IsSequence};
 ghost use Rattle.pfs_exact.specs.Private.Nodes.{Continues, Every, IsDone, IsNode, IsWork};
 ghost use Rattle.pfs_exact.specs.Parts.{CoversSome, IsPart, most_of};
@@ -130,6 +130,8 @@ pub fn prove_parts(
         → min searched.proved.makespan limit ≤ searched.proved.bound) }
     ensures budget { IfOk result (λ searched. searched.proved.left ≤ nodes) }
     ensures few { IfOk result (λ searched. nodes ≤ searched.proved.left + most_of instance.now.shop.jobs parts.now) }
+    ensures room { IfOk result (λ searched. length searched.parts.items
+        ≤ length parts.now + instance.now.shop.jobs * (instance.now.shop.jobs + 1) / 2) }
     ensures untouched { nodes ≡ 0 → order.new ≡ order.old }
     ensures kept { OnErr result (order.new ≡ order.old) }
 {
@@ -173,6 +175,9 @@ fn search(
     ensures untouched { OnOk result (work.old.left ≡ 0 → work.new.best ≡ work.old.best) }
     ensures few { OnOk result (work.old.left ≤ work.new.left
         + most_nodes (instance.now.shop.jobs - (length part.now.front.jobs + length part.now.back.jobs))) }
+    ensures one { OnOk result (work.old.left ≡ 0 → length work.new.parts.items ≤ length work.old.parts.items + 1) }
+    ensures room { OnOk result (length work.new.parts.items
+        ≤ length work.old.parts.items + 1 + most_more instance.now.shop.jobs) }
     ensures done { OnOk result (Every instance.now.shop (IsDone instance.now.shop work.new)
         part.now.front.jobs part.now.back.jobs) }
 {

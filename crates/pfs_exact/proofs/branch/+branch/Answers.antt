@@ -1,12 +1,14 @@
-use Rattle.std.proofs.Common.{◌≡◌, ℕ, ◌+◌, ◌-◌, ◌<◌, [], ◌∷◌, ◌++◌, length, get_or, refl, ap, sym, ◌∙◌, subst, arith, All}
+use Rattle.std.proofs.Common.{◌≡◌, ℕ, ◌+◌, ◌-◌, ◌<◌, inl, inr, List, [], ◌∷◌, ◌++◌, length, get_or, refl, ap, sym, ◌∙◌, subst, arith, All}
+use Rattle.std.proofs.lemmas.Bool.{cases_eq}
+use Rattle.std.proofs.lemmas.List.{length-append}
 use Rattle.std.proofs.lemmas.List.Elements.{All-push}
 use Rattle.pfs_exact.specs.declared.branch.Work.{Work}
 use Rattle.pfs_exact.specs.declared.ends.Ends.{Ends}
 use Rattle.pfs_exact.specs.declared.parts.Part.{Part}
-use Rattle.pfs_exact.specs.MostNodes.{most_nodes}
+use Rattle.pfs_exact.specs.MostNodes.{most_more, most_nodes}
 use Rattle.pfs_exact.specs.Parts.{IsPart}
 use Rattle.pfs_exact.specs.Private.Nodes.{AreEnds, Continues, Every, IsChild, IsDone, IsNode, IsOpen, IsSome, NoneShorter, goal_of, put_of, taken_of}
-use Rattle.pfs_exact.proofs.SearchedChildren.{few_nodes, none_entered, one_more}
+use Rattle.pfs_exact.proofs.SearchedChildren.{few_nodes, few_parts, none_entered, one_more}
 use Rattle.pfs_exact.proofs.Searching.{below_less, children_first, children_more, continues_at, continues_on, goal_less, left_continues, left_done, on_ok}
 use Rattle.pfs_exact.proofs.GrownEnds.{every_children, put_ends, put_length, put_some, taken_again}
 use Rattle.pfs_exact.proofs.branch.+branch.Goals as goal
@@ -83,7 +85,7 @@ each-init t c =
         [],
         none_entered shop.jobs (shop.jobs - (length work.ends.front.jobs + length work.ends.back.jobs))
             (work.ends.front.jobs ++ work.ends.back.jobs) c.children_of-forward.new.room.bounds (goal_of first) work.left
-            first.left (omega arith) is.ends.sequence,
+            first.left (length work.parts.items) (omega arith) is.ends.sequence,
       );
     }
 
@@ -92,7 +94,16 @@ returns-then-number-goal-clause-few t c =
     let ends = c.args.work.now.ends in
     let (entered, are) = c.each.invariant.entered in
     few_nodes c.args.instance.now.shop.jobs ends.front.jobs ends.back.jobs c.each.room.bounds entered
-    (goal_of c.each.work) c.args.work.now.left c.each.work.left are
+    (goal_of c.each.work) c.args.work.now.left c.each.work.left (length c.args.work.now.parts.items)
+    (length c.each.work.parts.items) are
+
+pub returns-then-number-goal-clause-room : goal.returns-then-number-goal-clause-room
+returns-then-number-goal-clause-room t c =
+    let ends = c.args.work.now.ends in
+    let (entered, are) = c.each.invariant.entered in
+    few_parts c.args.instance.now.shop.jobs ends.front.jobs ends.back.jobs c.each.room.bounds entered
+    (goal_of c.each.work) c.args.work.now.left c.each.work.left (length c.args.work.now.parts.items)
+    (length c.each.work.parts.items) are
 
 pub returns-then-number-goal-clause-done : goal.returns-then-number-goal-clause-done
 returns-then-number-goal-clause-done t c =
@@ -217,10 +228,21 @@ each-preserved t c =
           let put = ap nodes is in
           let one = put_length forward ends job in
           let less : nodes (put_of forward ends job) ≡ most_nodes (many - 1) = ap most_nodes (omega arith) in
-          let few = searched.few in (
+          let few = searched.few in
+          let pairs : Ends → ℕ = λ e. most_more (shop.jobs - (length e.front.jobs + length e.back.jobs)) in
+          let put_pairs = ap pairs is in
+          let less_pairs : pairs (put_of forward ends job) ≡ most_more (many - 1) = ap most_more (omega arith) in
+          let room = searched.room in (
             job ∷ entered,
             one_more shop.jobs many ends.front.jobs ends.back.jobs c.each.room.bounds entered (goal_of c.each.work)
-                c.args.work.now.left c.each.work.left job are (goal_of after) after.left after.makespan inside
-                (omega (arith, invariant.children.every)) outside (omega arith) better (omega arith) (omega arith),
+                c.args.work.now.left c.each.work.left (length c.args.work.now.parts.items)
+                (length c.each.work.parts.items) job are (goal_of after) after.left after.makespan
+                (length after.parts.items) inside (omega (arith, invariant.children.every)) outside (omega arith) better
+                (omega arith) (omega arith) (elim (cases_eq c.each.work.left 0) [
+                  | inl none ↦ inl
+                      (omega (arith, ap (λ (l : List Part). length l) (searched.unsearched none), length-append {A = Part}))
+                  | inr some ↦ inr
+                      (omega (arith, ap (λ (l : List Part). length l) (invariant.continues.parts (omega arith))))
+                ]),
           );
     }

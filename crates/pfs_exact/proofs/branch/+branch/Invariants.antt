@@ -19,7 +19,7 @@ invariant-each l = record {
   entered : (entered : List ℕ) × AreEntered l.instance.shop.jobs
       (l.instance.shop.jobs - (length l.fn.work.ends.front.jobs + length l.fn.work.ends.back.jobs))
       (l.fn.work.ends.front.jobs ++ l.fn.work.ends.back.jobs) l.room.bounds (goal_of l.work) l.fn.work.left l.work.left
-      entered;
+      (length l.fn.work.parts.items) (length l.work.parts.items) entered;
 }
 
 abbrev pub decreases-each : goal.decreases-each

@@ -1,5 +1,6 @@
-use Rattle.std.proofs.Common.{◌≡◌, ℕ, ◌+◌, ◌-◌, ◌≤◌, inl, inr, [], ◌∷◌, ◌++◌, length, take, arith, sym, ap, ◌∙◌, subst, add-one, rules}
+use Rattle.std.proofs.Common.{◌≡◌, ℕ, ◌+◌, ◌-◌, ◌≤◌, inl, inr, List, [], ◌∷◌, ◌++◌, length, take, arith, sym, ap, ◌∙◌, subst, add-one, rules}
 use Rattle.std.proofs.Math.Seq.{take-suc}
+use Rattle.std.proofs.lemmas.Bool.{cases_eq}
 use Rattle.std.proofs.lemmas.List.{take_all}
 use Rattle.std.proofs.lemmas.List.Sums.{sum_by_more, sum_by-take-le}
 use Rattle.pfs_base.specs.Paths.{makespan}
@@ -9,6 +10,7 @@ use Rattle.pfs_exact.specs.declared.parts.Part.{Part}
 use Rattle.pfs_exact.specs.Parts.{IsInSome}
 use Rattle.pfs_exact.specs.Private.Nodes.{IsDone, IsWork}
 use Rattle.pfs_exact.proofs.Covering.{by_middle, in_all, in_cases}
+use Rattle.pfs_exact.proofs.SearchedChildren.{few_pairs}
 use Rattle.pfs_exact.proofs.Searching.{continues_on}
 use Rattle.pfs_exact.proofs.prove.prove_parts.Goals as goal
 use Rattle.pfs_exact.proofs.prove.prove_parts.Goals.{then-work-min+in_ok-rooms+else-loop-part-test, else-work-min}
@@ -38,6 +40,14 @@ loop-part-preserved c =
       rooms = invariant.rooms;
       untouched = λ none. searched.untouched (omega arith) ∙ invariant.untouched none;
       few = omega arith;
+      room = let room = invariant.room in elim (cases_eq c.loop-part.work.left 0) [
+        | inl none ↦ let one = searched.one none in omega arith
+        | inr some ↦
+            let same = ap (λ (l : List Part). length l) (invariant.continues.parts (omega arith)) in
+            let first = ap (λ (l : List Part). length l) c.in-Ok.ensures.parts in
+            let more = searched.room in
+            omega arith
+      ];
       covered = λ order sequence full among.
           elim (in_cases order (take place parts) (part ∷ []) (subst (IsInSome order) more among)) [
             | inl early ↦ searched.continues.kept order (invariant.covered order sequence full early)
@@ -101,5 +111,18 @@ returns-clause-few c = elim c.if-work-min.branch [
   | else-work-min w ↦
       let same = ap (λ (x : Work). x.left) w.work-is in
       let first = c.in-Ok.ensures.nodes in
+      omega arith
+]
+
+pub returns-clause-room : goal.returns-clause-room
+returns-clause-room c = elim c.if-work-min.branch [
+  | then-work-min+in_ok-rooms+else-loop-part-test w ↦
+      let room = w.loop-part.invariant.room in
+      let pairs = few_pairs c.args.instance.now.shop.jobs in
+      let same = ap (λ (x : Work). length x.parts.items) w.work-is in
+      omega arith
+  | else-work-min w ↦
+      let same = ap (λ (x : Work). length x.parts.items) w.work-is in
+      let first = ap (λ (l : List Part). length l) c.in-Ok.ensures.parts in
       omega arith
 ]

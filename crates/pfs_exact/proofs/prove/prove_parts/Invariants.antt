@@ -1,5 +1,6 @@
-use Rattle.std.proofs.Common.{◌≡◌, ◌+◌, ◌≤◌, take}
+use Rattle.std.proofs.Common.{◌≡◌, ◌+◌, ◌≤◌, length, take}
 use Rattle.std.specs.Prelude.{vec_len}
+use Rattle.pfs_exact.specs.MostNodes.{most_more}
 use Rattle.pfs_exact.specs.Parts.{CoversSome, most_of}
 use Rattle.pfs_exact.specs.Private.Nodes.{Continues, IsWork, goal_of}
 use Rattle.pfs_exact.proofs.prove.prove_parts.Given as goal
@@ -12,5 +13,6 @@ invariant-loop-part l = record {
   rooms : l.instance.shop.jobs ≤ vec_len l.rooms;
   untouched : l.initial.work.left ≡ 0 → l.work.best ≡ l.initial.work.best;
   few : l.initial.work.left ≤ l.work.left + most_of l.instance.shop.jobs (take l.part-index l.parts);
+  room : length l.work.parts.items ≤ l.part-index + most_more l.instance.shop.jobs;
   covered : CoversSome l.instance.shop (take l.part-index l.parts) (goal_of l.work) l.work.parts.items;
 }
