@@ -342,6 +342,51 @@ int pfs_rounds(struct pfs_instance *instance, const struct pfs_rounds_options *o
 int pfs_prove(struct pfs_instance *instance, uint32_t *order, size_t order_length, uint64_t nodes, uint64_t *makespan,
               uint64_t *bound, uint64_t *left) PFS_CHECKED;
 
+#define PFS_OPEN UINT32_MAX /**< each place between the first and the last jobs of a part */
+
+/** @brief What pfs_prove_parts is asked for, and what it proved. */
+struct pfs_proof {
+    uint64_t limit;    /**< in: only orders with a makespan below it are searched for; UINT64_MAX: all */
+    uint64_t nodes;    /**< in: the greatest number of nodes */
+    uint64_t count;    /**< in: the number of given parts; out: of those that are left */
+    uint64_t makespan; /**< out: makespan of the best order found */
+    uint64_t bound;    /**< out: no order of the given parts has a makespan below it */
+    uint64_t left;     /**< out: number of nodes that were not used */
+};
+
+/** @brief Searches parts of all orders of a small instance, one after the other, and returns what is left. Allocates.
+ *
+ * A part is a set of orders of all jobs that begin with some jobs and end with some. It is a row of n places, n being
+ * the number of jobs: its first jobs, PFS_OPEN at each place between, and its last jobs. An order is in the part if it
+ * has the row's job at each place that isn't PFS_OPEN. The search is that of pfs_prove, which searches one part of n
+ * places PFS_OPEN.
+ *
+ * After a call, each order of the given parts has a makespan of at least `makespan` or `limit`, or is in one of the
+ * parts that are left. If nodes are left, no part is. The parts that are left can be searched by further calls, in any
+ * order and by several threads, each with an instance of its own; what a call leaves takes the place of the parts that
+ * it was given. Where none is left, the shortest order found is optimal, or no order is below the limit.
+ *
+ * The parts that are left are written over the given ones, those to be searched next first: what the search left of the
+ * part in which the nodes were used up, then the given parts that it didn't reach, in their order. No order of a part
+ * has a makespan below its bound. A given part that wasn't reached has the bound 0, so callers keep their own bounds of
+ * these last rows. A part may be dropped once its bound is at least the best makespan or the limit.
+ *
+ * A call without nodes returns the parts as they are, unless a bound of all orders closes them. Since version 2.1.0.
+ *
+ * @param[in,out] instance the instance, of at most 256 jobs and 64 machines
+ * @param[in,out] order all jobs; the order to start from, then the best order found, which is no longer
+ * @param[in,out] parts,parts_length rows of the given parts, then of those that are left; parts_length is
+ *     bounds_length * n
+ * @param[out] bounds,bounds_length a bound for each part that is left; bounds_length is at least count + n(n+1)/2
+ * @param[in,out] proof what is asked for, and what was proved
+ * @return PFS_OK, or the first of PFS_NOT_PREPARED (instance), PFS_LENGTH (order_length, parts_length), PFS_JOB or
+ *     PFS_REPEATED (the jobs of order from the left), PFS_SIZE (more than 256 jobs or 64 machines), PFS_ROOM
+ *     (bounds_length), PFS_JOB or PFS_REPEATED (the rows one after the other, each without its first run of PFS_OPEN
+ *     and from the left), PFS_MEMORY
+ */
+int pfs_prove_parts(struct pfs_instance *instance, uint32_t *order, size_t order_length, uint32_t *parts,
+                    size_t parts_length, uint64_t *bounds, size_t bounds_length, struct pfs_proof *proof) PFS_CHECKED;
+
 /** @brief Which rounds pfs_iterate makes. Each list may be NULL with length 0. */
 struct pfs_iterate_options {
     uint64_t seed;          /**< seed of the random words */

@@ -18,7 +18,7 @@ from support.library import (HEADER, SUPPORT, Library, Memory, Number, compile_q
                              list64, read32, text, u32s, u64s)
 from support.needs import tool
 from support.program import Program, Ran
-from support.second_library import ITERATE_OPTIONS, OPTIONS, by_job
+from support.second_library import ITERATE_OPTIONS, OPEN, OPTIONS, PROOF, by_job
 from support.second_program import Instance, generated, makespan
 from support.tools import TOP, csv_rows, output_of, run_tool
 
@@ -26,7 +26,7 @@ CALLS = SUPPORT / "library_calls.c"
 # The functions that allocate nothing once their instance is prepared, those that do, and those that need none.
 QUIET = ["sizes", "faulty_job", "makespan", "makespans", "bound", "neh", "rounds", "iterate", "insert", "insert_ties",
          "insertions", "heads_tails", "construct", "construct_ties", "local_search", "local_search_ties"]
-LOUD = ["pairs_bound", "table", "prove", "write"]
+LOUD = ["pairs_bound", "table", "prove", "prove_parts", "write"]
 OTHERS = ["random", "generate", "read", "read_order", "write_order"]
 FUNCTIONS = [*QUIET, *LOUD, *OTHERS, "prepare", "release"]
 TEXTS = {"pfs_message", "pfs_version", "pfs_version_number"}
@@ -34,7 +34,7 @@ NAMES = {f"pfs_{name}" for name in FUNCTIONS} | TEXTS
 # The arguments of library_calls: the functions, and calls on a larger instance.
 NAMED = [*QUIET, *LOUD, *OTHERS, "prepare", "prepare_again", "prepare_large", "insert_large", "makespans_large",
          "search_large"]
-ALL_CALLS = Ran(b"228 calls, 0 failures\n", b"", 0)
+ALL_CALLS = Ran(b"247 calls, 0 failures\n", b"", 0)
 # No call makes as many allocations.
 MOST_GROWTHS = 200
 SHOPS = 200
@@ -326,7 +326,8 @@ def searches(random: Random, shop: Instance) -> list[Call]:
         ("pfs_rounds", [*given(shop), Memory(OPTIONS.pack(random.choice(fuzz.SEEDS[:-1]), random.randint(1, shop.jobs),
                                                           first, random.randint(0, 4), random.randint(0, 2))),
                         *list32(jobs), out64(), out64()]),
-        ("pfs_prove", [*given(shop), *list32(jobs), Number(0), out64(), out64(), out64()]),
+        ("pfs_prove", [*given(shop), *list32(jobs), Number(random.choice([0, 1, 50])), out64(), out64(), out64()]),
+        ("pfs_prove_parts", of_parts(random, shop, jobs)),
         ("pfs_iterate", [*given(shop), Memory(ITERATE_OPTIONS.pack(
             random.choice(fuzz.SEEDS[:-1]), random.choice([1, len(moving)]), held, first, random.randint(0, 4),
             random.choice([0, 1, 2, 100]), random.choice([0, 1, 2, 100]), ties.value)),
@@ -348,6 +349,20 @@ def searches(random: Random, shop: Instance) -> list[Call]:
         ("pfs_random", [Number(random.choice(fuzz.SEEDS[:-1])), Number(random.randint(0, 9)),
                         *list32([PATTERN] * count)]),
     ]
+
+
+def of_parts(random: Random, shop: Instance, order: list[int]) -> Arguments:
+    """The arguments of a search of a few random parts."""
+    count, rows = random.choice([0, 1, 1, 3]), list[int]()
+    for _ in range(count):
+        first, last = sorted(random.randint(0, shop.jobs) for _ in range(2))
+        jobs = random.sample(range(shop.jobs), shop.jobs)
+        rows += random.choice([jobs[:first] + [OPEN] * (last - first) + jobs[last:], [OPEN] * shop.jobs])
+    room = count + shop.jobs * (shop.jobs + 1) // 2
+    rows += [PATTERN] * (room * shop.jobs - len(rows))
+    limit = random.choice([2**64 - 1, makespan(shop, order) - 1, second_program.lower_bound(shop) + 1, 0])
+    asked = PROOF.pack(max(limit, 0), random.choice([0, 1, 2, 9, 200]), count, *[PATTERN] * 3)
+    return [*given(shop), *list32(order), *list32(rows), *list64([PATTERN] * room), Memory(asked)]
 
 
 def files(random: Random, shop: Instance) -> list[Call]:
@@ -403,8 +418,10 @@ def is_quick(name: str, arguments: Arguments) -> bool:
     if name == "pfs_random":
         return numbers[1] <= 10_000
     if name == "pfs_prove":
-        return numbers[4] == 0
+        return numbers[4] <= 200
     memory = [argument.content for argument in arguments if isinstance(argument, Memory)]
+    if name == "pfs_prove_parts":
+        return PROOF.unpack(memory[-1])[1] <= 200
     if name == "pfs_rounds":
         _, take, first, count, passes = OPTIONS.unpack(memory[1])
     elif name == "pfs_iterate":
@@ -440,7 +457,7 @@ def test_two_libraries_agree_on_random_instances(libpfs: Library) -> None:
             for wrong in [spoilt(random, arguments) for _ in range(9)]:
                 if is_quick(name, wrong):
                     numbers.add(assert_same(libpfs, name, wrong))
-    assert numbers == {0, *range(2, 10), 16, 17}
+    assert numbers == {0, *range(2, 10), 14, 16, 17}
 
 
 @pytest.mark.seconds(10)

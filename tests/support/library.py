@@ -70,8 +70,8 @@ def with_lists(options: ctypes.Array[ctypes.c_char], accept: ctypes.Array[ctypes
 # The functions that work on a prepared instance.
 ON_SHOP = {f"pfs_{name}" for name in (
     "sizes", "faulty_job", "makespan", "makespans", "bound", "pairs_bound", "table", "neh", "rounds", "iterate",
-    "prove", "insert", "insert_ties", "insertions", "heads_tails", "construct", "construct_ties", "local_search",
-    "local_search_ties", "write")}
+    "prove", "prove_parts", "insert", "insert_ties", "insertions", "heads_tails", "construct", "construct_ties",
+    "local_search", "local_search_ties", "write")}
 
 
 class Library:

@@ -25,13 +25,15 @@ struct outputs {
     size_t jobs, machines, place, length;
     uint32_t list[44];
     uint64_t starts[8], ends[8], makespans[4];
+    struct pfs_proof proof;
     uint8_t text[200];
     struct pfs_block block;
 };
 /* Nothing is said of the bytes after the last field of a block. */
 enum { COMPARED = offsetof(struct outputs, block.notes) + sizeof(struct pfs_notes) };
 
-static struct outputs out, due;
+/* `given` has what a call reads of its outputs. */
+static struct outputs out, due, given;
 static int calls, failures;
 /* The instance of most calls, between numbers that no call may write. */
 static struct {
@@ -41,6 +43,7 @@ static struct {
 } held = {PATTERN, {NULL}, PATTERN};
 static struct pfs_instance *const shop = &held.instance;
 static const uint32_t TIMES[6] = {3, 2, 2, 5, 4, 1}, BEST[3] = {1, 0, 2}, NUMBERED[3] = {0, 1, 2};
+static const uint32_t BACKWARD[3] = {2, 1, 0}, ALL[3] = {PFS_OPEN, PFS_OPEN, PFS_OPEN};
 static const uint32_t OUTSIDE[3] = {9, 9, 9}, TWICE[3] = {1, 1, 9};
 /* The first random words of seed 7. */
 static const uint32_t WORDS[5] = {2442223337, 414063806, 2743600285, 3524868804, 2371632060};
@@ -49,6 +52,7 @@ static const struct pfs_block BLOCK = {3, 2, {7, 9, 8}};
 static void fresh(void) {
     memset(&out, PATTERN, sizeof out);
     memset(&due, PATTERN, sizeof due);
+    memset(&given, PATTERN, sizeof given);
 }
 
 static int are_due(void) {
@@ -76,6 +80,7 @@ static int finds_best(int number) {
 /* A list that a call reads and overwrites. */
 static uint32_t *in_place(const uint32_t *jobs) {
     memcpy(due.list, jobs, 3 * sizeof *jobs);
+    memcpy(given.list, jobs, 3 * sizeof *jobs);
     return memcpy(out.list, jobs, 3 * sizeof *jobs);
 }
 
@@ -102,6 +107,18 @@ static uint32_t *both(const uint32_t *current, const uint32_t *best) {
     memcpy(due.list + 3, best, 3 * sizeof *best);
     memcpy(out.list + 3, best, 3 * sizeof *best);
     return in_place(current);
+}
+
+/* A search by two nodes of parts, of which one row is given: the order of 3 jobs and 7 rows are in the list, their bounds
+ * in `starts`. */
+static int prove_parts(const uint32_t *order, size_t length, const uint32_t *row, size_t room, uint64_t count) {
+    uint32_t *rows = in_place(order) + 3;
+    memcpy(due.list + 3, row, 3 * sizeof *row);
+    memcpy(given.list + 3, row, 3 * sizeof *row);
+    out.proof.limit = UINT64_MAX, out.proof.nodes = 2, out.proof.count = count;
+    due.proof = given.proof = out.proof;
+    return pfs_prove_parts(shop, out.list, length, memcpy(rows, row, 3 * sizeof *row), 3 * room, out.starts, room,
+                           &out.proof);
 }
 
 #define TITLE "number of jobs, number of machines, initial seed, upper bound and lower bound :\n"
@@ -153,6 +170,12 @@ static int call_named(const char *name) {
     if (IS("prove"))
         return due.bound = 10, due.cells = 7,
                finds_best(pfs_prove(shop, in_place(BEST), 3, 7, &out.makespan, &out.bound, &out.cells));
+    if (IS("prove_parts")) {
+        int number = prove_parts(BACKWARD, 3, ALL, 7, 1);
+        memcpy(due.list + 3, (uint32_t[]){1, PFS_OPEN, 2, 0, PFS_OPEN, 2, PFS_OPEN, PFS_OPEN, 0}, 36);
+        memcpy(due.starts, (uint64_t[]){10, 11, 11}, 24);
+        return due.proof = (struct pfs_proof){UINT64_MAX, 2, 3, 13, 10, 0}, number;
+    }
     if (IS("iterate")) {
         int number = iterate(both(NUMBERED, NUMBERED), 3, 0, 1, 0, 1, 0);
         memcpy(due.list + 3, BEST, sizeof BEST);
@@ -225,6 +248,7 @@ static const char *const NAMES[] = {"sizes",
                                     "rounds",
                                     "iterate",
                                     "prove",
+                                    "prove_parts",
                                     "insert",
                                     "insert_ties",
                                     "insertions",
@@ -239,7 +263,7 @@ static const char *const NAMES[] = {"sizes",
                                     "read",
                                     "read_order",
                                     "write_order"};
-enum { ON_SHOP = 20 };
+enum { ON_SHOP = 21 };
 
 /* What is wrong in a call on an instance, after the instance itself. */
 static void wrong_calls(void) {
@@ -259,6 +283,14 @@ static void wrong_calls(void) {
     CALL(PFS_ROUNDS, rounds(in_place(NUMBERED), 3, PFS_MOST_ROUNDS, 3, 100));
     CALL(PFS_LENGTH, pfs_prove(shop, in_place(OUTSIDE), 2, 7, &out.makespan, &out.bound, &out.cells));
     CALL(PFS_REPEATED, pfs_prove(shop, in_place(TWICE), 3, 7, &out.makespan, &out.bound, &out.cells));
+    CALL(PFS_LENGTH, prove_parts(OUTSIDE, 2, OUTSIDE, 0, UINT64_MAX));
+    CALL(PFS_JOB, prove_parts(OUTSIDE, 3, OUTSIDE, 0, UINT64_MAX));
+    CALL(PFS_ROOM, prove_parts(BEST, 3, OUTSIDE, 5, 0));
+    CALL(PFS_ROOM, prove_parts(BEST, 3, OUTSIDE, 7, 2));
+    CALL(PFS_ROOM, prove_parts(BEST, 3, OUTSIDE, 7, UINT64_MAX));
+    CALL(PFS_JOB, prove_parts(BEST, 3, OUTSIDE, 7, 1));
+    CALL(PFS_REPEATED, prove_parts(BEST, 3, (uint32_t[]){1, PFS_OPEN, 1}, 7, 1));
+    CALL(PFS_JOB, prove_parts(BEST, 3, (uint32_t[]){PFS_OPEN, 1, PFS_OPEN}, 7, 1));
     CALL(PFS_LENGTH, iterate(both(OUTSIDE, OUTSIDE), 2, 0, 0, 0, 101, UINT32_MAX));
     CALL(PFS_REPEATED, iterate(both(TWICE, OUTSIDE), 3, 0, 0, 0, 101, UINT32_MAX));
     CALL(PFS_JOB, iterate(both(BEST, OUTSIDE), 3, 0, 0, 0, 101, UINT32_MAX));
@@ -370,13 +402,8 @@ static void tell(const char *name) {
     if (number == PFS_OK && !IS("prepare_again"))
         number = call_named(name);
     pfs_release(shop);
-    if (number == PFS_MEMORY) {
-        /* The order of pfs_prove is an input too. */
-        struct outputs given = due;
-        memset(&due, PATTERN, sizeof due);
-        if (IS("prove"))
-            memcpy(due.list, given.list, sizeof due.list);
-    }
+    if (number == PFS_MEMORY)
+        due = given;
     int is_right = (number == PFS_OK || number == PFS_MEMORY) && are_due();
     failures += !is_right;
     puts(!is_right ? "wrong" : number == PFS_OK ? "right" : "memory");

@@ -5,7 +5,7 @@ import contextlib
 import itertools
 import re
 import struct
-from collections.abc import Callable, Collection, Iterator, Sequence
+from collections.abc import Callable, Collection, Iterable, Iterator, Sequence
 from typing import Any
 
 from support import second_program
@@ -18,6 +18,8 @@ HELD, TIES = 16, 17
 MOST_ROUNDS = 1_000_000
 MOST_PASSES = 100
 MOST_TIES = 1
+MOST_PROVED_JOBS = 256
+MOST_PROVED_MACHINES = 64
 MOST_BLOCKS = 1_000
 MOST_MAKESPAN = 999_999_999_999_999_999
 LAYOUTS = [b"taillard", b"orlib"]
@@ -190,15 +192,134 @@ def pfs_rounds(shop: Instance, options: bytearray, order: bytearray, length: int
     put64(cells, count * second_program.cells_of_round(shop, take, passes))
 
 
+Part = tuple[list[int], list[int], int]
+
+
+class Proof:
+    """A search of parts, by the first jobs, the last jobs and a bound of each, from an order, for those that are shorter
+    and below a limit. Each node is computed from scratch."""
+
+    def __init__(self, shop: Instance, order: list[int], limit: int, nodes: int) -> None:
+        self.shop, self.best, self.limit, self.left = shop, order, limit, nodes
+        self.span, self.floor = makespan(shop, order), second_program.lower_bound(shop)
+        if self.floor < self.span:
+            self.floor = max([self.floor, *bounds_of_pairs(shop)])
+        self.parts: list[Part] = []
+
+    @property
+    def goal(self) -> int:
+        return min(self.span, self.limit)
+
+    def search(self, parts: Iterable[Part]) -> int:
+        """Searches these parts. Returns the bound of them."""
+        for front, back, bound in parts if self.floor < self.goal else []:
+            starts, rests = [0] * self.shop.machines, [0] * self.shop.machines
+            for job in front:
+                starts = grown(self.shop.times, starts, job)
+            for job in back[::-1]:
+                rests = grown(self.shop.times[::-1], rests, job)
+            self.branch(front, back, bound, starts, rests)
+        return max(self.floor, min([self.goal, *(bound for *_, bound in self.parts)]))
+
+    def branch(self, front: list[int], back: list[int], bound: int, starts: list[int], rests: list[int]) -> None:
+        """Searches a node. On each machine the next job starts no sooner than `starts`, and there is at least the time of
+        `rests`, which begin with the last machine, after the jobs between."""
+        if self.left == 0:
+            self.parts.append((front, back, bound))
+            return
+        self.left -= 1
+        times, between = self.shop.times, [job for job in range(self.shop.jobs) if job not in {*front, *back}]
+        if not between:
+            if makespan(self.shop, front + back) < self.span:
+                self.best, self.span = front + back, makespan(self.shop, front + back)
+            return
+        starts, rests = raised(times, starts, between), raised(times[::-1], rests, between)
+        ahead = {job: self.bound_of(times, starts, rests[::-1], between, job) for job in between}
+        behind = {job: self.bound_of(times[::-1], rests, starts[::-1], between, job) for job in between}
+        low = min([*ahead.values(), *behind.values()])
+        fronts, backs = ([*bounds.values()].count(low) for bounds in (ahead, behind))
+        forward = fronts < backs or fronts == backs and sum(ahead.values()) >= sum(behind.values())
+        bounds = ahead if forward else behind
+        while min(bounds.values()) < self.goal:
+            job = min(bounds, key=lambda job: (bounds[job], job))
+            if forward:
+                self.branch([*front, job], back, bounds[job], grown(times, starts, job), rests)
+            else:
+                self.branch(front, [job, *back], bounds[job], starts, grown(times[::-1], rests, job))
+            bounds[job] = self.span
+
+    def bound_of(self, times: list[list[int]], starts: list[int], rests: list[int], between: list[int], job: int) -> int:
+        """A bound of the orders with a job next, by each machine: from its end there, and from the least ends of others
+        on the machines before, the times of the other jobs and the rest."""
+        ends, most, ready = grown(times, starts, job), self.floor, 0
+        for row, end, rest in zip(times, ends, rests):
+            ready = max(ready, end)
+            most = max(most, ready + sum(row[other] for other in between if other != job) + rest)
+            ready += least_of(row, between)
+        return most
+
+
+def least_of(row: list[int], between: list[int]) -> int:
+    """The least time of the jobs between on a machine, if there are at least two."""
+    return min((row[job] for job in between)) if len(between) > 1 else 0
+
+
+def grown(times: list[list[int]], starts: list[int], job: int) -> list[int]:
+    """The ends of a job that is next."""
+    ends = [0]
+    for row, start in zip(times, starts):
+        ends.append(max(ends[-1], start) + row[job])
+    return ends[1:]
+
+
+def raised(times: list[list[int]], starts: list[int], between: list[int]) -> list[int]:
+    """On each machine no job starts sooner than on the one before and the least time there."""
+    made = starts[:1]
+    for row, start in zip(times, starts[1:]):
+        made.append(max(start, made[-1] + least_of(row, between)))
+    return made
+
+
 def pfs_prove(shop: Instance, order: bytearray, length: int, nodes: int, span: bytearray, bound: bytearray,
               left: bytearray) -> None:
-    """The search of no nodes."""
     expect(length == shop.jobs, LENGTH)
     given = distinct(shop.jobs, read32(order)[:length])
-    expect(shop.jobs <= 256 and shop.machines <= 64, SIZE)
-    put64(span, makespan(shop, given))
-    pfs_pairs_bound(shop, bound)
-    put64(left, nodes)
+    expect(shop.jobs <= MOST_PROVED_JOBS and shop.machines <= MOST_PROVED_MACHINES, SIZE)
+    proof = Proof(shop, given, 2**64 - 1, nodes)
+    put64(bound, proof.search([([], [], 0)]))
+    put32(order, proof.best)
+    put64(span, proof.span)
+    put64(left, proof.left)
+
+
+# How `struct pfs_proof` lies in memory: `limit`, `nodes`, `count`, `makespan`, `bound` and `left`.
+PROOF = struct.Struct("=6Q")
+OPEN = 2**32 - 1
+
+
+def part_of(size: int, row: list[int]) -> Part:
+    """The part of a row. Its jobs are validated from the left, without the first run of open places."""
+    first = row.index(OPEN) if OPEN in row else len(row)
+    last = next((place for place in range(first, len(row)) if row[place] != OPEN), len(row))
+    distinct(size, row[:first] + row[last:])
+    return row[:first], row[last:], 0
+
+
+def pfs_prove_parts(shop: Instance, order: bytearray, length: int, rows: bytearray, rows_length: int, bounds: bytearray,
+                    room: int, proof: bytearray) -> None:
+    jobs = shop.jobs
+    limit, nodes, count, *_ = PROOF.unpack(proof)
+    expect(length == jobs and rows_length == room * jobs, LENGTH)
+    given = distinct(jobs, read32(order)[:length])
+    expect(jobs <= MOST_PROVED_JOBS and shop.machines <= MOST_PROVED_MACHINES, SIZE)
+    expect(count + jobs * (jobs + 1) // 2 <= room, ROOM)
+    search = Proof(shop, given, limit, nodes)
+    bound = search.search([part_of(jobs, read32(rows)[row * jobs:][:jobs]) for row in range(count)])
+    put32(order, search.best)
+    put32(rows, [place for front, back, _ in search.parts
+                 for place in [*front, *[OPEN] * (jobs - len(front) - len(back)), *back]])
+    put64(bounds, *(bound for *_, bound in search.parts))
+    put64(proof, limit, nodes, len(search.parts), search.span, bound, search.left)
 
 
 def bounds_of_pairs(shop: Instance) -> Iterator[int]:

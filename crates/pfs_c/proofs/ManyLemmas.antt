@@ -14,7 +14,7 @@ valid_why A why None h = absurd (cc)
 valid_why A why (Some other) h = cc
 
 -- a sequence is the slice that the program takes
-same_slice : (long : ℕ) (sequences : List ℕ) (index : ℕ)
+pub same_slice : (long : ℕ) (sequences : List ℕ) (index : ℕ)
     → take (index * long + long - index * long) (drop (index * long) sequences) ≡ sequence_at long sequences index
 same_slice long sequences index =
     let all : index * long + long - index * long ≡ long = omega arith in

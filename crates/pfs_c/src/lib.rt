@@ -12,6 +12,7 @@ mod kept;
 pub mod laws;
 mod many;
 mod numbers;
+mod parts;
 mod proving;
 mod random;
 mod rows;
