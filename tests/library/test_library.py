@@ -2,10 +2,12 @@
 invalid argument (support/library_calls.c), also with failing allocations, under valgrind and with gcc's sanitizers; and
 on random instances and files against a second implementation (support/second_library.py)."""
 import ctypes
+import itertools
 import pathlib
 import re
 import subprocess
 import threading
+from collections.abc import Sequence
 from random import Random
 from typing import Any
 
@@ -353,16 +355,26 @@ def searches(random: Random, shop: Instance) -> list[Call]:
 
 def of_parts(random: Random, shop: Instance, order: list[int]) -> Arguments:
     """The arguments of a search of a few random parts."""
-    count, rows = random.choice([0, 1, 1, 3]), list[int]()
-    for _ in range(count):
-        first, last = sorted(random.randint(0, shop.jobs) for _ in range(2))
-        jobs = random.sample(range(shop.jobs), shop.jobs)
-        rows += random.choice([jobs[:first] + [OPEN] * (last - first) + jobs[last:], [OPEN] * shop.jobs])
-    room = count + shop.jobs * (shop.jobs + 1) // 2
-    rows += [PATTERN] * (room * shop.jobs - len(rows))
-    limit = random.choice([2**64 - 1, makespan(shop, order) - 1, second_program.lower_bound(shop) + 1, 0])
-    asked = PROOF.pack(max(limit, 0), random.choice([0, 1, 2, 9, 200]), count, *[PATTERN] * 3)
-    return [*given(shop), *list32(order), *list32(rows), *list64([PATTERN] * room), Memory(asked)]
+    limit = random.choice([2**64 - 1, makespan(shop, order), second_program.lower_bound(shop) + 1, 0])
+    return [*given(shop), *list32(order), *parts_in(shop, random_parts(random, shop.jobs), limit,
+                                                    random.choice([0, 1, 2, 9, 200]))]
+
+
+def random_parts(random: Random, jobs: int) -> list[list[int]]:
+    rows = list[list[int]]()
+    for _ in range(random.choice([0, 1, 1, 3])):
+        first, last = sorted(random.choices(range(jobs + 1), k=2))
+        order = random.sample(range(jobs), jobs)
+        rows.append(random.choice([order[:first] + [OPEN] * (last - first) + order[last:], [OPEN] * jobs]))
+    return rows
+
+
+def parts_in(shop: Instance, parts: list[list[int]], limit: int, nodes: int) -> Arguments:
+    """The rows of parts, their bounds and a `struct pfs_proof`."""
+    room = len(parts) + shop.jobs * (shop.jobs + 1) // 2
+    rows = [*itertools.chain(*parts), *[PATTERN] * ((room - len(parts)) * shop.jobs)]
+    asked = PROOF.pack(limit, nodes, len(parts), *[PATTERN] * 3)
+    return [*list32(rows), *list64([PATTERN] * room), Memory(asked)]
 
 
 def files(random: Random, shop: Instance) -> list[Call]:
@@ -491,6 +503,73 @@ def proved(libpfs: Library, shop: Instance, nodes: int) -> tuple[int, list[int],
     arguments = [*given(shop), *list32(range(shop.jobs)), Number(nodes), out64(), out64(), out64()]
     number, (_, order, *others) = libpfs.call("pfs_prove", *arguments)
     return number, read32(order), [int.from_bytes(each, "little") for each in others]
+
+
+def searched(libpfs: Library, shop: Instance, order: list[int], parts: list[list[int]], nodes: int,
+             limit: int = 2**64 - 1) -> tuple[list[int], list[list[int]], list[int], tuple[int, ...]]:
+    """What pfs_prove_parts finds: the order, the rows that are left with their bounds, and the makespan, the bound and the
+    nodes that are left."""
+    arguments = [*given(shop), *list32(order), *parts_in(shop, parts, limit, nodes)]
+    number, (_, found, rows, bounds, told) = libpfs.call("pfs_prove_parts", *arguments)
+    assert number == 0
+    _, _, left, *proof = PROOF.unpack(told)
+    return (read32(found), [read32(rows)[row * shop.jobs:][:shop.jobs] for row in range(left)],
+            [int.from_bytes(bounds[8 * row:][:8], "little") for row in range(left)], tuple(proof))
+
+
+def is_in(order: Sequence[int], row: list[int]) -> bool:
+    return all(place in (OPEN, job) for place, job in zip(row, order))
+
+
+@pytest.mark.quick
+@pytest.mark.seconds(5)
+def test_searches_of_parts_against_all_orders(libpfs: Library) -> None:
+    """One call, with any parts, limit and nodes; and calls on all orders that go on until nothing is left."""
+    random = Random(4)
+    for _ in range(300):
+        jobs, machines, most = random.randint(1, 5), random.randint(1, 4), random.choice([0, 1, 9, 99, 65_535, 10**6])
+        shop = second_program.instance_of([random.choices([0, most, random.randint(0, most)], k=machines)
+                                           for _ in range(jobs)])
+        spans = {order: makespan(shop, order) for order in itertools.permutations(range(jobs))}
+        start, least = random.sample(range(jobs), jobs), min(spans.values())
+        parts = random_parts(random, jobs)
+        limit, nodes = random.choice([2**64 - 1, least, least + 1, 0]), random.choice([0, 1, 3, 9, 10**6])
+        order, left, bounds, (span, bound, _) = searched(libpfs, shop, start, parts, nodes, limit)
+        assert spans[tuple(order)] == span <= makespan(shop, start)
+        for other, length in spans.items():
+            if any(is_in(other, row) for row in parts):
+                assert length >= bound and (length >= min(span, limit) or any(is_in(other, row) for row in left))
+            assert all(length >= number for row, number in zip(left, bounds) if is_in(other, row))
+        open_parts, order = [[OPEN] * jobs], start
+        while open_parts:
+            random.shuffle(open_parts)
+            cut = random.randint(1, len(open_parts))
+            order, left, _, (span, _, _) = searched(libpfs, shop, order, open_parts[:cut], random.choice([1, 2, 9]))
+            open_parts[:cut] = left
+        assert span == spans[tuple(order)] == least
+
+
+# The numbers of nodes of a branch and bound in C++ with the same tree, from these orders.
+COUNTED = {
+    "ta011": (147_590, [17, 4, 1, 11, 8, 9, 3, 13, 12, 14, 16, 2, 5, 18, 7, 19, 10, 6, 0, 15]),
+    "ta020": (233_420, [4, 11, 12, 18, 7, 5, 16, 6, 9, 17, 3, 2, 15, 14, 19, 13, 1, 8, 0, 10])}
+
+
+@pytest.mark.parametrize("name", COUNTED)
+def test_the_number_of_nodes(libpfs: Library, top: pathlib.Path, name: str) -> None:
+    """Of one call, and at most one in a thousand more of calls of 20,000 nodes each on what is left: a part that a better
+    order closes while a call runs takes a node."""
+    [row] = [row for row in csv_rows(top / "python" / "src" / "pfs" / "taillard.csv") if row["instance"] == name]
+    shop = generated(int(row["jobs"]), int(row["machines"]), int(row["time_seed"]))
+    nodes, order = COUNTED[name]
+    for budget, most in ((10**9, nodes), (20_000, 1.001 * nodes)):
+        rows, now, used, known = [[OPEN] * shop.jobs], order, 0, dict[tuple[int, ...], int]()
+        while rows:
+            now, rows, bounds, (span, _, left) = searched(libpfs, shop, now, rows, budget)
+            used += budget - left
+            known |= {tuple(each): bound for each, bound in zip(rows, bounds) if bound}
+            rows = [each for each in rows if known[tuple(each)] < span]
+        assert nodes <= used <= most and makespan(shop, now) == span == int(row["best_makespan"])
 
 
 @pytest.mark.seconds(60)

@@ -1,8 +1,7 @@
 -- What construction and local search find.
-use Rattle.std.proofs.Common.{◌≡◌, ℕ, ◌+◌, ◌<◌, ◌++◌, List, [], ◌∷◌, length, All, Contains, Some, None}
+use Rattle.std.proofs.Common.{◌≡◌, ℕ, ◌<◌, List, [], ◌∷◌, length, All, Contains, Some, None}
 use Rattle.std.proofs.Common.{get_or, insert, nat_eq, nat_lt, refl, ap, zero, suc, fold, filter, not, inl, inr, ◌∙◌, arith}
 use Rattle.std.specs.List.{list_any}
-use Rattle.std.specs.List.Sorted.{IsPermutation}
 use Rattle.pfs_iterate.specs.Alone.{by_ties}
 use Rattle.pfs_iterate.specs.Iterated.{settled, moved as moved_by}
 use Rattle.pfs_iterate.specs.Laws.{FirstLaw}
@@ -12,26 +11,19 @@ use Rattle.std.proofs.lemmas.Bool.{cases_Bool}
 use Rattle.std.proofs.lemmas.List.Elements.{All-head, All-tail}
 use Rattle.std.proofs.lemmas.List.Sorted.{Contains-permutation}
 use Rattle.std.specs.Cmp.{nat_eq_equiv}
-use Rattle.std.proofs.lemmas.List.{get_or-append-add, length-append}
-use Rattle.std.proofs.lemmas.List.Elements.{Contains-append_right}
 use Rattle.std.proofs.lemmas.List.Folds.{list_all_at}
-use Rattle.std.proofs.lemmas.List.Sorted.{IsPermutation-append_right, IsPermutation-insert}
-use Rattle.std.proofs.lemmas.List.Sorted.{IsPermutation-middle, IsPermutation-refl}
-use Rattle.std.proofs.lemmas.List.Sorted.{IsPermutation-sym, IsPermutation-trans, length_permutation}
+use Rattle.std.proofs.lemmas.List.Sorted.{length_permutation}
 use Rattle.std.proofs.lemmas.List.Sums.{list_all-from_AllPass}
 use Rattle.std.proofs.lemmas.Map.Views.{list_any-from_Contains}
 use Rattle.pfs_base.specs.FlowShop.{FlowShop}
 use Rattle.pfs_base.specs.Paths.{makespan}
 use Rattle.pfs_order.specs.Sequence.{IsSequence}
-use Rattle.pfs_order.proofs.Published.Sequences.{IsSequence-head, IsSequence-moved, IsSequence-permutation}
-use Rattle.pfs_order.proofs.Published.Sequences.{others-absent}
-use Rattle.pfs_insert.specs.Insertion.{best_place}
+use Rattle.pfs_order.proofs.Published.Sequences.{IsSequence-permutation}
 use Rattle.pfs_search.specs.Greedy.{moved, pass_over, passes_over}
-use Rattle.pfs_search.specs.Neh.{with_jobs}
 use Rattle.pfs_c.specs.declared.numbers.CallFault.TheVariants.{Job}
 use Rattle.pfs_search.proofs.Published.Moves.{passes_keep}
-use Rattle.pfs_c.specs.Building.{members_fault, IsConstructed, IsLocalSearch}
-use Rattle.pfs_c.proofs.Jobs.{absent_any, joined}
+use Rattle.pfs_c.specs.Building.{members_fault, IsLocalSearch}
+use Rattle.pfs_c.proofs.Jobs.{absent_any}
 
 -- ---- jobs of a list that are in a sequence
 

@@ -6,6 +6,7 @@ pub mod Jobs
 pub mod ManyLemmas
 pub mod Marks
 pub mod MemoryLemmas
+pub mod PartSteps
 pub mod RandomWords
 pub mod Returning
 pub mod RowSteps

@@ -6,6 +6,7 @@ pub mod Iterating
 pub mod Validation
 pub mod Makespans
 pub mod Numbers
+pub mod Parts
 pub mod Private
 pub mod Proving
 pub mod Random

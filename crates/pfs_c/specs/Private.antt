@@ -2,4 +2,5 @@
 pub mod Handle
 pub mod Marks
 pub mod Outcomes
+pub mod PartRows
 pub mod Rows

@@ -1,4 +1,4 @@
-use Rattle.std.proofs.Common.{◌≡◌, ◌+◌, ◌-◌, length, arith}
+use Rattle.std.proofs.Common.{◌-◌, length, arith}
 use Rattle.pfs_base.specs.declared.limits.TheConstants.{MOST_MACHINES}
 use Rattle.pfs_insert.specs.Exchange.{heaviest_back}
 use Rattle.pfs_c.proofs.RowSteps.{row_put, tails_none}

@@ -1,4 +1,4 @@
-use Rattle.std.proofs.Common.{◌≡◌, ◌+◌, ◌∙◌, ℕ, List, length, take, take_all, get_or, All, Contains, sym, arith}
+use Rattle.std.proofs.Common.{◌∙◌, ℕ, List, length, take_all, get_or, All, Contains, sym, arith}
 use Rattle.std.proofs.lemmas.List.Sorted.{Contains-permutation}
 use Rattle.pfs_base.specs.FlowShop.{FlowShop}
 use Rattle.pfs_order.specs.Sequence.{IsSequence}
