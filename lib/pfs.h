@@ -344,7 +344,7 @@ int pfs_prove(struct pfs_instance *instance, uint32_t *order, size_t order_lengt
 
 #define PFS_OPEN UINT32_MAX /**< each place between the first and the last jobs of a part */
 
-/** @brief What pfs_prove_parts is asked for, and what it proved. */
+/** @brief The limits of a call of pfs_prove_parts, and what it proved. */
 struct pfs_proof {
     uint64_t limit;    /**< in: only orders with a makespan below it are searched for; UINT64_MAX: all */
     uint64_t nodes;    /**< in: the greatest number of nodes */
@@ -363,8 +363,8 @@ struct pfs_proof {
  *
  * After a call, each order of the given parts has a makespan of at least `makespan` or `limit`, or is in one of the
  * parts that are left. If nodes are left, no part is. The parts that are left can be searched by further calls, in any
- * order and by several threads, each with an instance of its own; what a call leaves takes the place of the parts that
- * it was given. Where none is left, the shortest order found is optimal, or no order is below the limit.
+ * order and by several threads, each with its own instance; what a call leaves takes the place of the parts that it was
+ * given. Where none is left, the shortest order found is optimal, or no order is below the limit.
  *
  * The parts that are left are written over the given ones, those to be searched next first: what the search left of the
  * part in which the nodes were used up, then the given parts that it didn't reach, in their order. No order of a part
@@ -378,7 +378,7 @@ struct pfs_proof {
  * @param[in,out] parts,parts_length rows of the given parts, then of those that are left; parts_length is
  *     bounds_length * n
  * @param[out] bounds,bounds_length a bound for each part that is left; bounds_length is at least count + n(n+1)/2
- * @param[in,out] proof what is asked for, and what was proved
+ * @param[in,out] proof the limits of the call, and what was proved
  * @return PFS_OK, or the first of PFS_NOT_PREPARED (instance), PFS_LENGTH (order_length, parts_length), PFS_JOB or
  *     PFS_REPEATED (the jobs of order from the left), PFS_SIZE (more than 256 jobs or 64 machines), PFS_ROOM
  *     (bounds_length), PFS_JOB or PFS_REPEATED (the rows one after the other, each without its first run of PFS_OPEN

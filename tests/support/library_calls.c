@@ -109,8 +109,7 @@ static uint32_t *both(const uint32_t *current, const uint32_t *best) {
     return in_place(current);
 }
 
-/* A search by two nodes of parts, of which one row is given: the order of 3 jobs and 7 rows are in the list, their bounds
- * in `starts`. */
+/* A search of the part of one row by two nodes. The list has the order of 3 jobs and 7 rows, `starts` their bounds. */
 static int prove_parts(const uint32_t *order, size_t length, const uint32_t *row, size_t room, uint64_t count) {
     uint32_t *rows = in_place(order) + 3;
     memcpy(due.list + 3, row, 3 * sizeof *row);

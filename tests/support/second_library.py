@@ -196,8 +196,8 @@ Part = tuple[list[int], list[int], int]
 
 
 class Proof:
-    """A search of parts, by the first jobs, the last jobs and a bound of each, from an order, for those that are shorter
-    and below a limit. Each node is computed from scratch."""
+    """A search of parts for orders that are shorter than an order and below a limit. A part has its first jobs, its
+    last jobs and a bound."""
 
     def __init__(self, shop: Instance, order: list[int], limit: int, nodes: int) -> None:
         self.shop, self.best, self.limit, self.left = shop, order, limit, nodes
@@ -222,8 +222,8 @@ class Proof:
         return max(self.floor, min([self.goal, *(bound for *_, bound in self.parts)]))
 
     def branch(self, front: list[int], back: list[int], bound: int, starts: list[int], rests: list[int]) -> None:
-        """Searches a node. On each machine the next job starts no sooner than `starts`, and there is at least the time of
-        `rests`, which begin with the last machine, after the jobs between."""
+        """Searches a node. On each machine the next job starts no sooner than `starts`, and after the jobs between
+        there is at least the time of `rests`, which begin with the last machine."""
         if self.left == 0:
             self.parts.append((front, back, bound))
             return
@@ -248,7 +248,8 @@ class Proof:
                 self.branch(front, [job, *back], bounds[job], starts, grown(times[::-1], rests, job))
             bounds[job] = self.span
 
-    def bound_of(self, times: list[list[int]], starts: list[int], rests: list[int], between: list[int], job: int) -> int:
+    def bound_of(self, times: list[list[int]], starts: list[int], rests: list[int], between: list[int],
+                 job: int) -> int:
         """A bound of the orders with a job next, by each machine: from its end there, and from the least ends of others
         on the machines before, the times of the other jobs and the rest."""
         ends, most, ready = grown(times, starts, job), self.floor, 0

@@ -7,8 +7,8 @@ use Rattle.std.proofs.lemmas.List.{get_or-set_same, get_or-set_other, length-app
 use Rattle.std.proofs.lemmas.Nat.{mul-le}
 use Rattle.pfs_order.specs.Sequence.{IsSequence}
 use Rattle.pfs_order.proofs.Published.Sequences.{IsSequence-cons, length-le-size}
-use Rattle.pfs_exact.specs.MostNodes.{most_more, most_nodes}
-use Rattle.pfs_exact.specs.Private.Nodes.{IsOpen}
+use Rattle.pfs_exact.specs.MostNodes.{most_nodes}
+use Rattle.pfs_exact.specs.Private.Nodes.{IsOpen, most_more}
 use Rattle.pfs_exact.proofs.GrownEnds.{absent}
 
 -- these are at neither end, and none of their numbers is below the goal; with many jobs between, each took at most as many

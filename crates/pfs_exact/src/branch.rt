@@ -1,7 +1,7 @@
 //! The recursion.
 ghost use Rattle.std.specs.Prelude.{◌≡◌, ℕ, ◌+◌, ◌-◌, ◌<◌, ◌≤◌, [], ◌∷◌, ◌++◌, length, slice_index, OnOk};
-ghost use Rattle.pfs_exact.specs.MostNodes.{most_more, most_nodes};
-ghost use Rattle.pfs_exact.specs.Private.Nodes.{AreEnds, Continues, Every, IsDone, IsNode, IsWork, NoneShorter};
+ghost use Rattle.pfs_exact.specs.MostNodes.{most_nodes};
+ghost use Rattle.pfs_exact.specs.Private.Nodes.{AreEnds, Continues, Every, IsDone, IsNode, IsWork, NoneShorter, most_more};
 
 use crate::children::{CLOSED, Room, children_of};
 use crate::ends::{Ends, put, take};

@@ -2,9 +2,9 @@
 ghost use Rattle.std.specs.Prelude.{◌≡◌, ℕ, ◌+◌, ◌*◌, ◌/◌, ◌<◌, ◌≤◌, ◌-◌, [], ◌∷◌, ◌++◌, length, min, All, IfOk, OnErr, OnOk, vec_len};
 ghost use Rattle.pfs_base.specs.Paths.{makespan};
 ghost use Rattle.pfs_audit.specs.Bound.{bound_of, IsLowerBound};
-ghost use Rattle.pfs_exact.specs.MostNodes.{most_more, most_nodes};
+ghost use Rattle.pfs_exact.specs.MostNodes.{most_nodes};
 ghost use Rattle.pfs_order.specs.Sequence.{IsSequence};
-ghost use Rattle.pfs_exact.specs.Private.Nodes.{Continues, Every, IsDone, IsNode, IsWork};
+ghost use Rattle.pfs_exact.specs.Private.Nodes.{Continues, Every, IsDone, IsNode, IsWork, most_more};
 ghost use Rattle.pfs_exact.specs.Parts.{CoversSome, IsPart, most_of};
 
 use crate::branch::{Work, branch};

@@ -1,6 +1,7 @@
 -- Orders that begin and end with some jobs, how short they can be, and what a node of the search keeps of them. Jobs and
 -- machines count from 0.
 use Rattle.std.specs.Prelude.{◌≡◌, ℕ, Bool, true, false, ◌+◌, ◌-◌, ◌<◌, ◌≤◌, List, [], ◌∷◌, ◌++◌, length}
+use Rattle.std.specs.Prelude.{zero, suc}
 use Rattle.std.specs.Prelude.{slice_index, slice_index_or, remove, sum_by, Contains, min, ◌⊎◌, All}
 use Rattle.pfs_base.specs.FlowShop.{FlowShop, time_of}
 use Rattle.pfs_base.specs.Paths.{makespan}
@@ -106,6 +107,11 @@ pub record AreBounds (shop : FlowShop) (ends : Ends) (forward : Bool) (many : �
       → IsOpen ends.front.jobs ends.back.jobs job
 
 -- ---- the search
+
+-- with so many jobs between, those that are left besides the first one: at each node the children but one
+abbrev pub most_more : ℕ → ℕ
+most_more zero = 0
+most_more (suc jobs) = jobs + most_more jobs
 
 -- the best order has all jobs and this makespan, no order is shorter than the floor, the parts' bounds hold, and the table
 -- is the shop's

@@ -5,9 +5,9 @@ use Rattle.std.proofs.lemmas.List.Elements.{All-push}
 use Rattle.pfs_exact.specs.declared.branch.Work.{Work}
 use Rattle.pfs_exact.specs.declared.ends.Ends.{Ends}
 use Rattle.pfs_exact.specs.declared.parts.Part.{Part}
-use Rattle.pfs_exact.specs.MostNodes.{most_more, most_nodes}
+use Rattle.pfs_exact.specs.MostNodes.{most_nodes}
 use Rattle.pfs_exact.specs.Parts.{IsPart}
-use Rattle.pfs_exact.specs.Private.Nodes.{AreEnds, Continues, Every, IsChild, IsDone, IsNode, IsOpen, IsSome, NoneShorter, goal_of, put_of, taken_of}
+use Rattle.pfs_exact.specs.Private.Nodes.{AreEnds, Continues, Every, IsChild, IsDone, IsNode, IsOpen, IsSome, NoneShorter, goal_of, most_more, put_of, taken_of}
 use Rattle.pfs_exact.proofs.SearchedChildren.{few_nodes, few_parts, none_entered, one_more}
 use Rattle.pfs_exact.proofs.Searching.{below_less, children_first, children_more, continues_at, continues_on, goal_less, left_continues, left_done, on_ok}
 use Rattle.pfs_exact.proofs.GrownEnds.{every_children, put_ends, put_length, put_some, taken_again}

@@ -1,8 +1,7 @@
 use Rattle.std.proofs.Common.{◌≡◌, ◌+◌, ◌≤◌, length, take}
 use Rattle.std.specs.Prelude.{vec_len}
-use Rattle.pfs_exact.specs.MostNodes.{most_more}
 use Rattle.pfs_exact.specs.Parts.{CoversSome, most_of}
-use Rattle.pfs_exact.specs.Private.Nodes.{Continues, IsWork, goal_of}
+use Rattle.pfs_exact.specs.Private.Nodes.{Continues, IsWork, goal_of, most_more}
 use Rattle.pfs_exact.proofs.prove.prove_parts.Given as goal
 
 abbrev pub invariant-loop-part : goal.invariant-loop-part
