@@ -1,15 +1,14 @@
 //! Searches of parts of all orders, for C.
 ghost use Rattle.std.specs.Prelude.{◌≡◌, ◌≢◌, ℕ, ◌+◌, ◌*◌, ◌/◌, ◌<◌, ◌≤◌, ◌++◌, length, take, drop, All};
-ghost use Rattle.std.specs.Prelude.{IfOk, IfErr, IfSome, slice_index, slice_index_or};
+ghost use Rattle.std.specs.Prelude.{IfOk, IfErr, IfSome, slice_index};
 ghost use Rattle.pfs_batch.specs.Many.{sequence_at};
 ghost use Rattle.pfs_exact.specs.Parts.{IsPart};
-ghost use Rattle.pfs_exact.specs.declared.parts.Part.{Part as IsAPart};
 ghost use Rattle.pfs_order.specs.Sequence.{IsSequence};
 ghost use Rattle.pfs_c.specs.Numbers.{Returns};
 ghost use Rattle.pfs_c.specs.Parts.{IsSearched, jobs_of, prove_parts_fault, rows_fault};
 ghost use Rattle.pfs_c.specs.Validation.{jobs_fault, on_shop};
 ghost use Rattle.pfs_c.specs.Private.Outcomes.{Rejects, Validates};
-ghost use Rattle.pfs_c.specs.Private.PartRows.{AreRows, IsRow};
+ghost use Rattle.pfs_c.specs.Private.PartRows.{AreBounds, AreRows, IsRow};
 
 use crate::given::{
     copy_sequence, order_of, validate, validate_jobs, validate_more, validate_product,
@@ -239,8 +238,7 @@ fn write_parts(parts: &[Part], jobs: usize, rows: &mut [u32], bounds: &mut [u64]
     requires bounds { length parts.now ≤ length bounds.old }
     requires few { All (λ part. length part.front.jobs + length part.back.jobs ≤ jobs) parts.now }
     ensures rows { AreRows jobs parts.now rows.new }
-    ensures bounds { (index : ℕ) (d : IsAPart) → index < length parts.now
-        → slice_index bounds.new index ≡ (slice_index_or parts.now index d).bound }
+    ensures bounds { AreBounds parts.now bounds.new }
 {
     for index in 0..parts.len() {
         let part = &parts[index];

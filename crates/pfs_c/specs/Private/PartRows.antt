@@ -18,3 +18,8 @@ pub record IsRow (jobs : ℕ) (part : Part) (row : List ℕ) : Type 0 where
 abbrev pub AreRows : ℕ → List Part → List ℕ → Type 0
 AreRows jobs parts rows = (index : ℕ) (d : Part) → index < length parts
     → IsRow jobs (slice_index_or parts index d) (sequence_at jobs rows index)
+
+-- the first numbers are the bounds of the parts
+abbrev pub AreBounds : List Part → List ℕ → Type 0
+AreBounds parts bounds = (index : ℕ) (d : Part) → index < length parts
+    → slice_index bounds index ≡ (slice_index_or parts index d).bound
