@@ -24,6 +24,7 @@ from pfs.base.checkout import version
 from pfs.binding import library as _library, rounds as _rounds
 from pfs.commands import main as _commands
 from pfs.commands.cli import Misused
+from pfs.base import locks as _locks
 from pfs.files import state as _state
 from pfs.plan import plan
 from pfs.plan.plan import Limits
@@ -227,7 +228,7 @@ def test_a_state_has_one_lock_whatever_link_leads_to_it(tmp_path: pathlib.Path) 
     (tmp_path / "link").symlink_to("state")
     search = _search.Search(shop, None, 0, None, 0, 0)
     with _state.State(str(tmp_path / "state"), shop, search):
-        with pytest.raises(_state.StateInUse, match="link: another search is using this state"), \
+        with pytest.raises(_locks.StateInUse, match="link: another search is using this state"), \
                 _state.State(str(tmp_path / "link"), shop, search):
             raise AssertionError
     assert sorted(os.listdir(tmp_path)) == ["link"] and os.listdir("/proc/self/fd") == before
@@ -245,7 +246,7 @@ def test_a_lock_whose_file_another_search_removes_is_taken_again(folder: pathlib
             path.unlink()
 
     monkeypatch.setattr("fcntl.flock", flock)
-    got = _state.lock_of(str(folder / "state"))
+    got = _locks.lock_of(str(folder / "state"))
     assert os.path.samestat(os.fstat(got), os.stat(path))
     os.close(got)
 
@@ -263,8 +264,8 @@ def test_a_search_that_begins_while_another_ends_has_the_state_alone(tmp_path: p
 
     with first:
         monkeypatch.setattr("os.close", closed)
-    with pytest.raises(_state.StateInUse):
-        _state.lock_of(path)
+    with pytest.raises(_locks.StateInUse):
+        _locks.lock_of(path)
     second.__exit__()
 
 

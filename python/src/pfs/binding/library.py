@@ -55,6 +55,11 @@ class Block(ctypes.Structure):
     _fields_ = [("jobs", c_size_t), ("machines", c_size_t), ("notes", Notes)]
 
 
+class Proof(ctypes.Structure):
+    """The struct `pfs_proof`."""
+    _fields_ = [(name, c_uint64) for name in ("limit", "nodes", "count", "makespan", "bound", "left")]
+
+
 # The parameters of each function, an instance first where it works on one.
 LIST = [c_void_p, c_size_t]
 PROTOTYPES: Final[dict[str, list[type[Any]]]] = {
@@ -71,6 +76,7 @@ PROTOTYPES: Final[dict[str, list[type[Any]]]] = {
     "pfs_rounds": [c_void_p, c_void_p, *LIST, c_void_p, c_void_p],
     "pfs_iterate": [c_void_p, c_void_p, *LIST, c_void_p, *LIST, c_void_p],
     "pfs_prove": [c_void_p, *LIST, c_uint64, c_void_p, c_void_p, c_void_p],
+    "pfs_prove_parts": [c_void_p, *LIST, *LIST, *LIST, c_void_p],
     "pfs_insert": [c_void_p, *LIST, c_uint32, c_void_p, c_void_p],
     "pfs_insert_ties": [c_void_p, c_uint32, *LIST, c_uint32, c_void_p, c_void_p],
     "pfs_insertions": [c_void_p, *LIST, c_uint32, *LIST],

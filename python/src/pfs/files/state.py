@@ -2,14 +2,13 @@
 from __future__ import annotations
 
 import contextlib
-import fcntl
 import hashlib
 import json
 import os
 from typing import Any
 
 from pfs.base.atomic import atomic_write
-from pfs.base.faults import Refused
+from pfs.base.locks import StateFault, StateInUse, lock_name, lock_of
 from pfs.binding import library as c
 from pfs.files.instances import bytes_of
 from pfs.shops.instance import Instance, digest_of
@@ -17,14 +16,6 @@ from pfs.shops.search import Search
 from pfs.shops.solution import Solution
 
 VERSION = "pfs search 2"
-
-
-class StateFault(Refused):
-    """A file isn't a state of this search."""
-
-
-class StateInUse(OSError):
-    """Another search uses a state file."""
 
 
 class State:
@@ -76,32 +67,6 @@ class State:
                      "cells": self.cells + best.cells, "order": [job + 1 for job in best.order.tolist()]}
             text = json.dumps(state | {"sum": checksum(state)}) + "\n"
             atomic_write(self.path, text.encode(), f"{os.path.realpath(self.path)}.new")
-
-
-def lock_name(path: str) -> str:
-    """Return the name of a state's lock. Several links may lead to a state."""
-    return f"{os.path.realpath(path)}.lock"
-
-
-def lock_of(path: str) -> int:
-    """Lock a state, and return the descriptor of its lock. If another process removes the lock in the meantime, start
-    again."""
-    name = lock_name(path)
-    while True:
-        try:
-            lock = os.open(name, os.O_RDWR | os.O_CREAT | os.O_NOFOLLOW | os.O_CLOEXEC, 0o666)
-        except OSError as error:
-            raise OSError(error.errno, error.strerror, path) from None
-        try:
-            fcntl.flock(lock, fcntl.LOCK_EX | fcntl.LOCK_NB)
-            if os.path.samestat(os.fstat(lock), os.lstat(name)):
-                return lock
-        except FileNotFoundError:
-            pass  # another process removed it before it was locked
-        except BlockingIOError:
-            os.close(lock)
-            raise StateInUse(f"{path}: another search is using this state") from None
-        os.close(lock)
 
 
 def checksum(state: dict[str, Any]) -> str:

@@ -19,10 +19,13 @@ from pfs.binding.library import LENGTHS, SHORT, Prepared, quick_insert, quick_in
 from pfs.binding.validate import (BOOLS, MOST_UINT32, Order, array_copy, as_uint32, as_uint32_bytes, checked_int,
                                   checked_jobs, checked_order, checked_times, jobs_error, layout_number, wrong_job)
 from pfs.schedules.schedule import Schedule
-from pfs.shops.proof import solve_and_prove
-from pfs.shops.search import Event, Progress, Search, limit_of, number_of, rule_of
+from pfs.shops.proof import MOST, proved, solve_and_prove
+from pfs.shops.proof_file import ProofFile
+from pfs.shops.search import Event, Progress, Search, limit_of, number_of, rule_of, stop_of
 from pfs.shops.solution import Interrupted, Jobs, Sequence, Solution, as_order
 
+# The most threads of a proof.
+MOST_THREADS = 1_000
 # Three times as fast as calling the class of a named tuple.
 _new_tuple = tuple.__new__
 
@@ -623,34 +626,52 @@ class Instance:
             # A second interruption while the first one was being handled.
             raise Interrupted(search.solution()) from None
 
-    def optimum(self, seconds: float = 1.0, *, start: Jobs | None = None, stop: Event | None = None) -> Solution:
+    def optimum(self, seconds: float | None = None, *, nodes: int | None = None, threads: int = 1,
+                state: str | os.PathLike[str] | None = None, limit: int | None = None, start: Jobs | None = None,
+                stop: Event | None = None) -> Solution:
         """Search for the shortest order, and for a proof that no order is shorter.
 
         A short search by :meth:`solve` is followed by the library's branch and bound from both ends of the order
-        (Ladhari and Haouari 2005; Gmys, Mezmaz, Melab and Tuyttens 2020), in calls with more and more nodes. Its bounds
-        are proved. Instances of 20 jobs on 5 machines take a few milliseconds, many of 20 jobs on 10 machines a second.
+        (Ladhari and Haouari 2005; Gmys, Mezmaz, Melab and Tuyttens 2020). Its bounds are proved. Instances of 20 jobs
+        on 5 machines take a few milliseconds, many of 20 jobs on 10 machines a second. Beyond 256 jobs or 64 machines
+        no proof is tried.
 
         Parameters
         ----------
-        seconds : float
-            For how long the proof is tried. Beyond 256 jobs or 64 machines it isn't.
+        seconds : float, optional
+            For how long the proof is tried: a second by default, or until it ends if there are ``nodes``. With
+            ``float("inf")`` it is tried until it ends.
+        nodes : int, optional
+            The most nodes that are searched. With one thread, the same number of them finds and proves the same on
+            every machine.
+        threads : int
+            The number of threads, 1 to 1,000.
+        state : str or os.PathLike, optional
+            A proof file. It is written twice a second and at the end. If it exists, the proof goes on from there, with
+            its order in place of a search; so the same call continues after an interruption, or if the process was
+            killed. Once nothing is open, others can check it by ``pfs-experiments prove --verify``.
+        limit : int, optional
+            Only orders with a makespan below it are searched for. If there is none, ``bound`` is at least ``limit``: so
+            a published makespan is proved optimal without its order.
         start : array_like or Solution, optional
             An order, by numbers or names of jobs, from which the proof begins in place of a search.
         stop : threading.Event, optional
-            The search ends when the event is set.
+            The search ends within a tenth of a second when the event is set.
 
         Returns
         -------
         Solution
-            The best order. It has the makespan of its ``bound`` if it is ``optimal``. Otherwise time was too short, and
-            no order has a makespan below its ``bound``.
+            The best order. It has the makespan of its ``bound`` if it is ``optimal``. No order has a makespan below its
+            ``bound``, and ``proof`` tells its nodes and how much is open.
 
         Raises
         ------
         TypeError, ValueError
-            As for :meth:`solve`.
+            As for :meth:`solve`, or if the file is damaged, or of another instance, limit or version.
+        OSError
+            If the file can't be written, or another process uses it. Its ``solution`` is the best so far.
         Interrupted
-            After Ctrl-C. Its ``solution`` is the best so far.
+            After Ctrl-C, within a tenth of a second. Its ``solution`` is the best so far.
 
         Examples
         --------
@@ -658,10 +679,21 @@ class Instance:
         >>> best = shop.optimum(10)
         >>> best.makespan, best.bound, best.optimal, shop.bound()
         (1278, 1278, True, 1232)
+        >>> shop.optimum(limit=1278, start=shop.neh()).bound, best.proof.open
+        (1278, 0)
         """
-        limit = number_of(seconds, "seconds", 0, float("inf"), " seconds")
-        return self.solve(0 if start is not None else 100, method="iterated-greedy", start=start, stop=stop,
-                          time_limit=limit, target=self.bound(), prove=limit)
+        usual = 1.0 if nodes is None else float("inf")
+        span = usual if seconds is None else number_of(seconds, "seconds", 0, float("inf"), " seconds")
+        budget = None if nodes is None else checked_int(nodes, "nodes", 0, MOST)
+        count = checked_int(threads, "threads", 1, MOST_THREADS)
+        below = None if limit is None else checked_int(limit, "limit", 0, MOST)
+        is_stopped = stop_of(stop)
+        with ProofFile(state, self, below) as file:
+            proof = file.read()
+            if proof is None or start is not None:
+                proof = file.begin(self.solve(0 if start is not None else 100, method="iterated-greedy", start=start,
+                                              stop=stop, time_limit=span, target=self.bound()))
+            return proved(proof, span, is_stopped, budget, count, file.save)
 
     def schedule(self, order: Jobs) -> Schedule:
         """Return the schedule of an order of all jobs, by number from 0 or by name. Each operation starts as early as

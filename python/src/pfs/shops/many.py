@@ -12,8 +12,8 @@ from typing import Any, TypeAlias
 from pfs.binding import library as c
 from pfs.binding.validate import checked_int, checked_order
 from pfs.shops.instance import Instance
-from pfs.shops.proof import proved
-from pfs.shops.search import Limits, Search, is_true, limit_of, solve
+from pfs.shops.proof import solve_and_prove
+from pfs.shops.search import Limits, Search, is_true, limit_of
 from pfs.shops.solution import InterruptedAll, Solution, as_order
 
 MOST_WORKERS = 1_000
@@ -45,16 +45,23 @@ class Task:
         if stop.is_set():
             return
         left = None if self.rounds is None else self.rounds - self.search.first
-        solve(self.search, left, None if left is None else self.keep, self.options["time_limit"],
-              self.options["target"], stop)
+        try:
+            best = solve_and_prove(self.search, left, None if left is None else self.keep_so_far,
+                                   self.options["time_limit"], self.options["target"], stop,
+                                   prove=self.options["prove"] or 0.0)
+        except Exception as error:
+            if (found := getattr(error, "solution", None)) is not None and left is not None:
+                self.keep(found)
+            raise
         if left is not None or not stop.is_set():
-            self.keep()
-            if seconds := self.options["prove"]:
-                self.found[self.key] = proved(self.search.shop, self.found[self.key], seconds, stop.is_set)
+            self.keep(best)
 
-    def keep(self, *_: int) -> None:
+    def keep_so_far(self, *_: int) -> None:
+        self.keep(self.search.solution())
+
+    def keep(self, best: Solution) -> None:
         """Keep the best solution so far, with the cells of all calls."""
-        best = copy.copy(self.search.solution())
+        best = copy.copy(best)
         best.cells += self.before.cells if self.before else 0
         self.found[self.key] = best
 

@@ -24,6 +24,16 @@ class Improvement(NamedTuple):
     makespan: int
 
 
+class Proved(NamedTuple):
+    """How far a proof has come: its nodes, the processor seconds of all its calls, and how many parts are left to be
+    searched, with their share of all orders. Nothing is left of a proof that has ended."""
+
+    nodes: int
+    seconds: float
+    open: int
+    share: float
+
+
 class Solution:
     """An order of all jobs, with its makespan.
 
@@ -49,9 +59,12 @@ class Solution:
         Whether the makespan is the bound, so that no order is shorter. If it is False, this isn't known.
     current : numpy.ndarray or None
         The order from which a search with the method ``"iterated-greedy"`` continues, which may be a longer one.
+    proof : Proved or None
+        How far the proof has come, if one was tried: its ``nodes``, its processor ``seconds``, the number of the parts
+        that are ``open``, and their ``share`` of all orders.
     history : tuple of Improvement
         The round, the seconds and the makespan of each improvement, if ``solve`` was called with ``history=True``, else
-        empty. Comparisons ignore it, the bound and the current order.
+        empty. Comparisons ignore it, the bound, the proof and the current order.
 
     Examples
     --------
@@ -65,7 +78,7 @@ class Solution:
     """
 
     __slots__ = ("order", "makespan", "cells", "machines", "rounds", "seed", "history", "bound",
-                 "current")
+                 "proof", "current")
 
     def __init__(self, order: npt.ArrayLike, makespan: int, cells: int = 0, machines: int = 0, rounds: int = 0,
                  seed: int = 0) -> None:
@@ -79,6 +92,7 @@ class Solution:
         self.seed = checked_int(seed, "seed", 0, c.MOST_SEED)
         self.history: tuple[Improvement, ...] = ()
         self.bound = 0
+        self.proof: Proved | None = None
         self.current: Order | None = None
 
     @property
@@ -103,7 +117,7 @@ class Solution:
         return hash((self.order.tobytes(), self.makespan))
 
     def __reduce__(self) -> tuple[Any, ...]:
-        return type(self), self._fields(), (None, {"history": self.history, "bound": self.bound,
+        return type(self), self._fields(), (None, {"history": self.history, "bound": self.bound, "proof": self.proof,
                                                   "current": self.current})
 
     def to_text(self) -> str:
