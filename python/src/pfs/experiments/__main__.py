@@ -1,6 +1,7 @@
 """The command line `pfs-experiments`."""
 from __future__ import annotations
 
+import argparse
 import importlib
 import io
 import os
@@ -15,6 +16,14 @@ from pfs.commands.cli import CommandLine, ShowVersion, inches, number, run
 
 # Where the program is searched for: on the path, and in the folder of pfs-experiments.
 PROGRAMS = f"{os.environ.get('PATH', os.defpath)}:{os.path.dirname(os.path.abspath(sys.argv[0]))}"
+
+def share(text: str) -> tuple[int, int]:
+    """Returns the numbers of I/N, of which the first is 1 to the second."""
+    first, _, last = text.partition("/")
+    if not (first.isdecimal() and last.isdecimal() and 1 <= int(first) <= int(last)):
+        raise argparse.ArgumentTypeError(f"{text!r} must be I/N, with I from 1 to N")
+    return int(first), int(last)
+
 
 # Of each command its module, which has a function of its name, and what it does.
 COMMANDS = {
@@ -32,9 +41,22 @@ ARGUMENTS: list[tuple[str, str, dict[str, Any]]] = [
                                            "help": "the program pfs"}),
     ("run slurm", "--retry", {"action": "store_true", "help": "repeat the runs that failed"}),
     ("run slurm", "plan", {"metavar": "PLAN", "help": "a plan, in TOML"}),
-    ("run slurm status check prove", "csv", {"metavar": "CSV", "help": "the CSV of the runs"}),
+    ("run slurm status check", "csv", {"metavar": "CSV", "help": "the CSV of the runs"}),
+    ("prove", "csv", {"metavar": "CSV", "nargs": "?", "help": "the CSV of the runs"}),
     ("prove", "--seconds", {"metavar": "S", "type": number(1, 10 ** 6), "default": 1,
                             "help": "for each instance; 1 by default"}),
+    ("prove", "--reference", {"metavar": "CSV", "help": "a CSV with instance and makespan: where no order of the runs is "
+                              "as short, only shorter ones are searched for"}),
+    ("prove", "--jobs", {"metavar": "N", "type": number(1, 10 ** 6),
+                         "help": "N tasks at once, by GNU parallel, which gets the further options"}),
+    ("prove", "--slurm", {"action": "store_true", "help": "as arrays of N tasks; sbatch gets the further options"}),
+    ("prove", "--round", {"metavar": "S", "type": number(1, 10 ** 6), "default": 60,
+                          "help": "how long the tasks of a round take; 60 seconds by default"}),
+    ("prove", "--verify", {"metavar": "FILE", "help": "search what this proof file lists again"}),
+    ("prove", "--share", {"metavar": "I/N", "type": share, "default": (1, 1),
+                          "help": "with --verify: only the I-th of N shares"}),
+    ("prove", "--instances", {"metavar": "FOLDER", "type": pathlib.Path,
+                              "help": "with --verify: the folder of the instance's file"}),
     ("run", "--sshloginfile", {"metavar": "FILE", "help": "a file with the machines for GNU parallel"}),
     ("slurm", "--tasks", {"metavar": "N", "type": number(1, 10 ** 9), "help": "the most tasks of the array"}),
     ("slurm", "--dry-run", {"action": "store_true", "help": "print the call of sbatch"}),
@@ -63,7 +85,7 @@ def command_line() -> CommandLine:
     parser.add_argument("--version", action=ShowVersion)
     commands = parser.add_subparsers(dest="command", required=True, metavar="COMMAND")
     for name, (module, text) in COMMANDS.items():
-        made = commands.add_parser(name, help=text, description=text, allow_abbrev=name not in ("run", "slurm"))
+        made = commands.add_parser(name, help=text, description=text, allow_abbrev=name not in ("run", "slurm", "prove"))
         made.set_defaults(module=module)
         for of, argument, options in ARGUMENTS:
             if name in of.split():
@@ -76,7 +98,7 @@ def command() -> int:
     parser = command_line()
     args, options = parser.parse_known_args()
     args.options = options
-    if options and args.command not in ("run", "slurm"):
+    if options and args.command not in ("run", "slurm") and not (args.command == "prove" and args.jobs):
         parser.error(f"unrecognized arguments: {' '.join(options)}")
     for module in ("matplotlib", "pandas", "scipy") if args.command == "report" else ():
         optional(module, "a report")

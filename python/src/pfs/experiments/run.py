@@ -16,7 +16,7 @@ import shutil
 import signal
 import subprocess
 import sys
-from collections.abc import Container, Iterator
+from collections.abc import Container, Iterator, Mapping
 from typing import TypedDict
 
 from pfs.base.cells import FORMULA, text_cell
@@ -115,9 +115,9 @@ def runs_a_process(left: list[Row]) -> int:
     return max(1, min(MOST_RUNS, int(SHARED_SECONDS / max(longest, 1e-9)), -(-len(left) // LEAST_PROCESSES)))
 
 
-def parallel(folder: pathlib.Path, words: list[str]) -> None:
-    """Runs GNU parallel, which handles SIGINT itself, and kills what it leaves. SIGTERM is passed to it as SIGINT. It
-    gets SIGINT too when this process is killed. Both signals wait until it has started."""
+def parallel(folder: pathlib.Path, words: list[str], variables: Mapping[str, str] = os.environ) -> int:
+    """Runs GNU parallel, which handles SIGINT itself, kills what it leaves, and returns its exit status. SIGTERM is
+    passed to it as SIGINT. It gets SIGINT too when this process is killed. Both signals wait until it has started."""
     def begin() -> None:
         one.set_process(one.PR_SET_PDEATHSIG, signal.SIGINT)
         signal.pthread_sigmask(signal.SIG_UNBLOCK, stops)
@@ -126,12 +126,13 @@ def parallel(folder: pathlib.Path, words: list[str]) -> None:
     signal.pthread_sigmask(signal.SIG_BLOCK, stops)
     one.set_process(one.PR_SET_CHILD_SUBREAPER, 1)
     process = subprocess.Popen(words, cwd=folder, stdin=subprocess.DEVNULL, stdout=subprocess.DEVNULL,
-                               env=dict(os.environ, PARALLEL_SHELL="/bin/sh"), preexec_fn=begin)
+                               env={**variables, "PARALLEL_SHELL": "/bin/sh"}, preexec_fn=begin)
     signal.signal(signal.SIGINT, signal.SIG_IGN)
     signal.signal(signal.SIGTERM, lambda *_: process.send_signal(signal.SIGINT))
     signal.pthread_sigmask(signal.SIG_UNBLOCK, stops)
-    process.wait()
+    status = process.wait()
     one.kill_descendants()
+    return status
 
 
 # Slurm
@@ -277,11 +278,16 @@ class Proved(TypedDict):
 
 
 class Proof(Proved, total=False):
-    """With where the search began, for how long it took, and what it was made with."""
+    """With where the search began, its nodes and processor seconds, how many parts are open, its proof file, and what it
+    was made with."""
     start: str
     seed: str
+    nodes: int
     seconds: float
+    open: int
+    proof: str
     version: str
+    program: str
     library: str
     instance: str
 

@@ -4,6 +4,9 @@ from __future__ import annotations
 
 import contextlib
 import copy
+import itertools
+import math
+import operator
 import threading
 import time
 from collections.abc import Callable, Iterable, Iterator
@@ -46,11 +49,27 @@ class Part(NamedTuple):
     row: bytes
     bound: int
 
-    def ends(self) -> tuple[list[int], list[int]]:
-        """The first jobs and the last ones. An order of all jobs has only first ones."""
-        jobs: list[int] = np.frombuffer(self.row, dtype=np.uint32).tolist()
+    def gap(self) -> tuple[int, int]:
+        """Where the jobs between the first and the last ones begin and end in the row. An order of all jobs has only
+        first ones."""
         first, last = self.row.find(OPEN), self.row.rfind(OPEN)
-        return (jobs, []) if first < 0 else (jobs[:first // 4], jobs[(last + 4) // 4:])
+        return (len(self.row), len(self.row)) if first < 0 else (first, (last + 4) // 4 * 4)
+
+    def ends(self) -> tuple[list[int], list[int]]:
+        """The first jobs and the last ones."""
+        jobs: list[int] = np.frombuffer(self.row, dtype=np.uint32).tolist()
+        first, last = self.gap()
+        return jobs[:first // 4], jobs[last // 4:]
+
+    def placed(self) -> int:
+        """How many jobs have a place."""
+        first, last = self.gap()
+        return (len(self.row) - last + first) // 4
+
+    def has(self, other: Part) -> bool:
+        """Whether the orders of another part are orders of this one."""
+        first, last = self.gap()
+        return self.row[:first] == other.row[:first] and self.row[last:] == other.row[last:]
 
 
 def part_of(jobs: int, first: Iterable[int] = (), last: Iterable[int] = (), bound: int = 0) -> Part:
@@ -133,11 +152,11 @@ class Found(NamedTuple):
 
 
 class Caller:
-    """Calls of the library, with the room for what they leave, and the nodes of the next one."""
+    """Calls of the library with up to `most` parts, with the room for what they leave, and the nodes of the next one."""
 
-    def __init__(self, shop: Instance) -> None:
+    def __init__(self, shop: Instance, most: int = 0) -> None:
         self.shop, self.nodes = shop, FIRST
-        count = MOST_PARTS + shop.jobs * (shop.jobs + 1) // 2
+        count = max(most, MOST_PARTS) + shop.jobs * (shop.jobs + 1) // 2
         self.rows, self.bounds = np.empty((count, shop.jobs), dtype=np.uint32), np.empty(count, dtype=np.uint64)
 
     def call(self, parts: list[Part], order: bytes, limit: int, nodes: int) -> Found:
@@ -228,6 +247,9 @@ class Proof:
             for worker in begun:
                 worker.join()
             self.running.clear()
+            for step in [*self.root.all()]:
+                if step.left or step.done and step.rest:
+                    step.end(1)
         if self.error is not None:
             raise self.error
 
@@ -295,6 +317,39 @@ class Proof:
         self.lock.notify_all()
         return False
 
+    def deal(self, count: int) -> list[Proof]:
+        """Return proofs of what is open: up to a number of shares."""
+        shares, turn = [Proof(self.shop, self.best, self.limit) for _ in range(count)], itertools.cycle(range(count))
+        for share in shares:
+            share.root.more = []
+        for step in self.root.all():
+            dealt: dict[int, list[Part]] = {}
+            for part in step.rest:
+                if part.bound < self.goal:
+                    dealt.setdefault(next(turn), []).append(part)
+            for at, parts in dealt.items():
+                shares[at].root.more.append(Step(shares[at].root, parts))
+        return [share for share in shares if share.root.more]
+
+    def merge(self, share: Proof) -> None:
+        """Take over what has become of a share of what is open. What isn't open any more is left out."""
+        if share.best.makespan < self.best.makespan:
+            self.best = share.best
+        self.seconds += share.seconds
+        for step in [*share.root.more]:
+            rows = {part.row for part in (*step.done, *step.rest)}
+            own = next((own for own in self.root.all() if rows <= {part.row for part in own.rest}), None)
+            if own is None or own.parent is None:
+                continue
+            own.rest = [part for part in own.rest if part.row not in rows]
+            step.parent, parent = own.parent, own.parent
+            parent.more.append(step)
+            if not own.rest:
+                parent.more.remove(own)
+            self.nodes += sum(each.nodes for each in step.all())
+        for step in reversed([*self.root.all()]):
+            step.fold(self.grain)
+
     def coarsen(self) -> None:
         """Let steps that are closed have more nodes, so that there are fewer."""
         with self.lock:
@@ -324,13 +379,8 @@ def share_of(parts: Iterable[Part], jobs: int) -> float:
     >>> share_of([part_of(4, [0, 2], [3]), part_of(4, [1])], 4)
     0.2916666666666667
     """
-    share = 0.0
-    for part in parts:
-        own = 1.0
-        for placed in range(sum(map(len, part.ends()))):
-            own /= jobs - placed
-        share += own
-    return share
+    shares = [1.0, *itertools.accumulate((1 / (jobs - placed) for placed in range(jobs)), operator.mul)]
+    return math.fsum(shares[part.placed()] for part in parts)
 
 
 def solve_and_prove(search: Search, rounds: int | None, progress: Progress | None, time_limit: Any,

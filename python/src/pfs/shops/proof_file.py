@@ -5,6 +5,7 @@ from __future__ import annotations
 import contextlib
 import hashlib
 import os
+import re
 import time
 from collections.abc import Iterator
 from typing import TYPE_CHECKING
@@ -19,6 +20,9 @@ if TYPE_CHECKING:
     from pfs.shops.instance import Instance
 
 FORM = "pfs proof 1"
+# A step, the part of all orders, or parts that differ in the last job at one end.
+LINE = re.compile(r"([0-9]+) (?:step ([1-9][0-9]*)|open)|\*(?: /([0-9]+))?"
+                  r"|([<>]) ([0-9]+(?: [0-9]+)*) \| ([0-9]+(?: [0-9]+)*) :((?: /?[0-9]+)+)")
 # Seconds between two writes, and the length of a file in bytes above which steps that are closed become one.
 EVERY, MOST_BYTES = 0.5, 1_000_000
 
@@ -158,19 +162,19 @@ def siblings(parts: list[Part], at: int) -> tuple[str, int]:
     end."""
     found = "*", 1
     for sign in "><":
-        key, end = parent(parts[at].row, sign), at
-        while key is not None and end < len(parts) and parent(parts[end].row, sign) == key:
+        key, end = parent(parts[at], sign), at
+        while key is not None and end < len(parts) and parent(parts[end], sign) == key:
             end += 1
         if key is not None and (found[0] == "*" or end - at > found[1]):
             found = sign, end - at
     return found
 
 
-def parent(row: bytes, sign: str) -> bytes | None:
-    """Return a row without the last job at one end, or None if there is none."""
-    first, last = row.find(OPEN), row.rfind(OPEN)
-    at = (len(row) if first < 0 else first) - 4 if sign == ">" else len(row) if first < 0 else (last + 4) // 4 * 4
-    return row[:at] + OPEN + row[at + 4:] if 0 <= at < len(row) else None
+def parent(part: Part, sign: str) -> bytes | None:
+    """Return the row of a part without the last job at one end, or None if there is none."""
+    first, last = part.gap()
+    at = first - 4 if sign == ">" else last
+    return part.row[:at] + OPEN + part.row[at + 4:] if 0 <= at < len(part.row) else None
 
 
 def common(one: list[int], other: list[int]) -> int:
@@ -183,6 +187,20 @@ def common(one: list[int], other: list[int]) -> int:
 
 def read_proof(path: str, shop: Instance) -> Proof:
     """Return the proof of a file, which must be one of an instance."""
+    lines = lines_in(path)
+    try:
+        jobs, machines, digest = instance_of(lines)
+        if (jobs, machines, digest) != (shop.jobs, shop.machines, digest_of(shop)):
+            raise StateFault(f"{path}: the proof of another instance, of {jobs} jobs and {machines} machines")
+        return proof_in(lines, shop)
+    except (ValueError, LookupError, ArithmeticError) as error:
+        if isinstance(error, StateFault):
+            raise
+        raise StateFault(f"{path}: a proof file, but its lines make no sense") from None
+
+
+def lines_in(path: str) -> list[str]:
+    """Return the lines of a file without its checksum, which must be right."""
     with open(path, "rb") as file:
         text = file.read().decode(errors="replace")
     if not text.startswith("pfs proof "):
@@ -192,20 +210,18 @@ def read_proof(path: str, shop: Instance) -> Proof:
     body, _, last = text.removesuffix("\n").rpartition("\n")
     if last != sum_of(f"{body}\n"):
         raise StateFault(f"{path}: a proof file, but damaged: its checksum is wrong")
-    try:
-        return proof_in(body.split("\n"), path, shop)
-    except (ValueError, LookupError, ArithmeticError) as error:
-        if isinstance(error, StateFault):
-            raise
-        raise StateFault(f"{path}: a proof file, but its lines make no sense") from None
+    return body.split("\n")
 
 
-def proof_in(lines: list[str], path: str, shop: Instance) -> Proof:
+def instance_of(lines: list[str]) -> tuple[int, int, str]:
+    """Return the numbers of jobs and machines and the digest of a file's instance."""
+    _, jobs, machines, digest = lines[2].split()
+    return int(jobs), int(machines), digest
+
+
+def proof_in(lines: list[str], shop: Instance) -> Proof:
     """Return the proof of the lines of a file."""
     given = dict(line.partition(" ")[::2] for line in lines[1:7])
-    jobs, machines, digest = given["instance"].split()
-    if (int(jobs), int(machines), digest) != (shop.jobs, shop.machines, digest_of(shop)):
-        raise StateFault(f"{path}: the proof of another instance, of {jobs} jobs and {machines} machines")
     start, best = (order_in(given[name], shop) for name in ("start", "best"))
     proof = Proof(shop, start, None if given["limit"] == "none" else int(given["limit"]))
     proof.best, proof.seconds, proof.root.more = best, float(given["seconds"]), []
@@ -227,23 +243,25 @@ def read_steps(proof: Proof, lines: list[str]) -> None:
     """Read the steps of a file into a proof."""
     above, step, front, back = [proof.root], proof.root, list[int](), list[int]()
     for line in lines:
-        words = line.split()
-        if words[0].isdigit():
-            depth, nodes = int(words[0]), int(words[2]) if words[1] == "step" else 0
-            step = Step(above[depth], [])
-            step.nodes, front, back = nodes, [], []
-            above[depth].more.append(step)
-            above[depth + 1:] = [step]
-            proof.nodes += nodes
+        match = LINE.fullmatch(line)
+        if match is None:
+            raise ValueError(line)
+        depth, nodes, bound, sign, first, last, own = match.groups()
+        if depth:
+            step, front, back = Step(above[int(depth)], []), [], []
+            step.nodes = int(nodes or 0)
+            above[int(depth)].more.append(step)
+            above[int(depth) + 1:] = [step]
+            proof.nodes += step.nodes
             continue
-        sign, ends, own = line[0], *line[1:].partition(":")[::2]
-        if sign == "*":
-            parts = [part_of(proof.shop.jobs, bound=int(ends.strip("/ ") or 0))]
-        else:
-            (kept, *first), (kept_last, *last) = ([int(word) for word in half.split()] for half in ends.split("|"))
-            front = front[:kept] + [job - 1 for job in first]
-            back = [job - 1 for job in last] + back[len(back) - kept_last:]
+        parts = [part_of(proof.shop.jobs, bound=int(bound or 0))]
+        if sign:
+            (kept, *jobs), (kept_last, *last_jobs) = ([int(word) for word in half.split()] for half in (first, last))
+            front = front[:kept] + [job - 1 for job in jobs]
+            back = [job - 1 for job in last_jobs] + back[len(back) - kept_last:]
             parts = [*parts_in(own, sign, front, back, proof.shop.jobs)]
+            if len({*front, *back}) < len(front) + len(back):
+                raise ValueError(line)
         if step.nodes:
             step.done = step.done + parts
         else:
@@ -252,11 +270,10 @@ def read_steps(proof: Proof, lines: list[str]) -> None:
 
 def parts_in(text: str, sign: str, front: list[int], back: list[int], jobs: int) -> Iterator[Part]:
     """Yield the parts of a line, each with the last bound before it."""
-    bound = 0
+    bound, free = 0, {*range(jobs)} - {*front, *back}
     for word in text.split():
         if word[0] == "/":
             bound = int(word[1:])
-        elif sign == ">":
-            yield part_of(jobs, [*front, int(word) - 1], back, bound)
-        else:
-            yield part_of(jobs, front, [int(word) - 1, *back], bound)
+            continue
+        free.remove(job := int(word) - 1)
+        yield part_of(jobs, [*front, job], back, bound) if sign == ">" else part_of(jobs, front, [job, *back], bound)
