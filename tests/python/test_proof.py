@@ -73,7 +73,7 @@ def test_below_a_limit(case: tuple[plainly.Table, list[int]], more: int, nodes: 
     assert some.bound <= max(least, shop.bound()) and some.proof is not None and some.proof.nodes <= nodes
     assert some.proof.open or some.bound >= goal
     assert 0 <= round(some.proof.share * sizes[0]) <= sizes[0] and (some.proof.share > 0) == (some.proof.open > 0)
-    assert best.bound == min(least, max(limit, shop.bound("pairs"))) and best.proof is not None
+    assert min(least, limit) <= best.bound <= least and best.proof is not None
     assert best.makespan == least if limit > least else best.makespan >= least
     assert (best.proof.open, best.proof.share) == (0, 0)
 
@@ -153,7 +153,7 @@ def test_what_is_proved_stays_with_the_solution() -> None:
     assert best.optimal and not other.optimal and best == other
     for same in (pickle.loads(pickle.dumps(best)), copy.copy(best)):
         assert (same, same.bound, same.optimal, same.proof) == (best, best.bound, True, best.proof)
-    assert best.proof is not None and best.proof.open == 0 < best.proof.nodes and other.proof is None
+    assert best.proof is not None and best.proof.open == 0 and other.proof is None
     with pytest.raises(ValueError, match="read-only"):
         shop.solve(0, start=range(20), prove=60).order[0] = 1
 
@@ -259,7 +259,7 @@ def test_an_error_in_one_thread_ends_all(monkeypatch: pytest.MonkeyPatch) -> Non
 
 def test_threads_that_the_system_refuses(monkeypatch: pytest.MonkeyPatch) -> None:
     """With some the proof is made, with none nothing is proved."""
-    shop, real, turns = pfs.taillard(1), threading.Thread.start, itertools.count()
+    shop, real, turns = pfs.taillard(2), threading.Thread.start, itertools.count()
 
     def start(thread: threading.Thread) -> None:
         if next(turns) >= allowed:
@@ -274,10 +274,10 @@ def test_threads_that_the_system_refuses(monkeypatch: pytest.MonkeyPatch) -> Non
     assert shop.optimum(60, threads=5).optimal
 
 
-@pytest.mark.parametrize("words", [{"threads": 64}, {"threads": 1000}])
-def test_more_threads_than_parts(words: dict[str, int]) -> None:
-    assert pfs.Instance([[3, 2], [2, 5], [4, 1]]).optimum(60, start=[2, 1, 0], **words).optimal
-    assert pfs.taillard(1).optimum(60, **words).optimal
+@pytest.mark.parametrize("threads", [64, 1000])
+def test_more_threads_than_parts(threads: int) -> None:
+    assert pfs.Instance([[3, 2], [2, 5], [4, 1]]).optimum(60, start=[2, 1, 0], threads=threads).optimal
+    assert pfs.taillard(1).optimum(60, threads=threads).optimal
 
 
 def test_the_same_instance_in_proofs_at_once() -> None:

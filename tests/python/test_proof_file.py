@@ -58,7 +58,7 @@ def test_a_proof_goes_on(case: tuple[plainly.Table, list[int]], first: int, most
             listed = {part.row: part for step in again.root.all() for part in (*step.done, *step.rest)}
             assert [wrong(again, listed, step) for step in again.root.all() if step.done] == [""] * sum(
                 step.nodes > 0 for step in read.steps)
-        assert (best.bound, best.proof.open) == (whole.bound, 0) and sorted(os.listdir(path.parent)) == [path.name]
+        assert best.proof and (best.bound, best.proof.open) == (whole.bound, 0) and sorted(os.listdir(path.parent)) == [path.name]
         assert threads > 1 or (best.proof.nodes, best.order.tolist()) == (
             whole.proof and whole.proof.nodes, whole.order.tolist())
 

@@ -28,7 +28,7 @@ class Known(NamedTuple):
 def prove(args: Options) -> int:
     """Proves a bound for each instance of a CSV, and adds the column `proved_bound` to it; or searches a proof file
     again. What is proved is kept in proofs.json next to the CSV, the proofs in the folder `proofs`, from which a later
-    call goes on, and an order that is shorter than all of the CSV next to the order files."""
+    call continues, and an order that is shorter than all of the CSV next to the order files."""
     if (args.csv is None) == (args.verify is None):
         raise Misused("name a CSV, or a proof file by --verify")
     if args.verify:
@@ -36,8 +36,7 @@ def prove(args: Options) -> int:
     experiment = folders.started(args.csv)
     known = [*known_of(args, experiment)]
     (experiment.folder / "proofs").mkdir(exist_ok=True)
-    if args.jobs:
-        shares.search(args, experiment, [each.case for each in known])
+    is_stopped = bool(args.jobs) and shares.search(args, experiment, [each.case for each in known])
     found, count = run.proofs_of(experiment.folder), 0
     for each in known:
         proof = found[each.own["instance"]] = proved(args, experiment, each)
@@ -46,7 +45,7 @@ def prove(args: Options) -> int:
         said = said_of(run.whole(args.csv, each.row, "makespan"), proof, each.case.limit)
         print(plain(f"{each.name}: {said}"), flush=True)
     print(f"{args.csv}: the shortest makespan of {count} of {len(known)} instances is known", file=sys.stderr)
-    return 1 if any(run.gather(experiment, args.csv)) else 0
+    return 1 if any(run.gather(experiment, args.csv)) or is_stopped else 0
 
 
 def known_of(args: Options, experiment: folders.Experiment) -> list[Known]:

@@ -12,7 +12,7 @@ import shutil
 import signal
 import subprocess
 import sys
-from collections.abc import Iterable, Mapping
+from collections.abc import Mapping, Sequence
 from typing import Any, NamedTuple
 
 import pfs
@@ -39,8 +39,9 @@ class Case(NamedTuple):
     path: pathlib.Path
 
 
-def search(args: Options, experiment: Experiment, cases: Iterable[Case]) -> None:
-    """Searches what is open of some proofs, in rounds, until nothing is, or each has had its seconds."""
+def search(args: Options, experiment: Experiment, cases: Sequence[Case]) -> bool:
+    """Searches what is open of some proofs, in rounds, until nothing is, or each has had its seconds. Returns whether it
+    was interrupted."""
     folder = experiment.folder / "proofs"
     with contextlib.ExitStack() as stack:
         files: dict[str, ProofFile] = {}
@@ -55,10 +56,11 @@ def search(args: Options, experiment: Experiment, cases: Iterable[Case]) -> None
             is_stopped = run(args, experiment, begun)
             collect(begun, files)
             if is_stopped:
-                break
+                return True
+    return False
 
 
-def deal(args: Options, folder: pathlib.Path, cases: Iterable[Case], files: Mapping[str, ProofFile],
+def deal(args: Options, folder: pathlib.Path, cases: Sequence[Case], files: Mapping[str, ProofFile],
          left: dict[str, float]) -> pathlib.Path | None:
     """Writes the shares of a round into a new folder, with the numbers of the tasks in the file `tasks`. Returns the
     folder, or None if nothing is left to do."""

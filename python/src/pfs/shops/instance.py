@@ -647,8 +647,8 @@ class Instance:
         threads : int
             The number of threads, 1 to 1,000.
         state : str or os.PathLike, optional
-            A proof file. It is written twice a second and at the end. If it exists, the proof goes on from there, with
-            its order in place of a search; so the same call continues after an interruption, or if the process was
+            A proof file. It is written twice a second and at the end. If it exists, the proof continues from there,
+            with its order in place of a search; so the same call continues after an interruption, or if the process was
             killed. Once nothing is open, others can check it by ``pfs-experiments prove --verify``.
         limit : int, optional
             Only orders with a makespan below it are searched for. If there is none, ``bound`` is at least ``limit``: so

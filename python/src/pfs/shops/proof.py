@@ -1,5 +1,5 @@
 """Proofs that an order is optimal, by the library's branch and bound. What a call leaves is a list of parts, so a proof
-is made in many short calls and in threads, ends at once, and goes on later."""
+is made in many short calls and in threads, ends at once, and can be continued later."""
 from __future__ import annotations
 
 import contextlib
@@ -34,7 +34,7 @@ MOST_PARTS = 256
 # The nodes after which a step ends.
 GRAIN = 1_000_000
 MOST = 2**64 - 1
-# Stands in a row for each job between the first and the last ones.
+# What a row has for each job between the first and the last ones.
 OPEN = b"\xff\xff\xff\xff"
 
 
@@ -286,7 +286,7 @@ class Proof:
             return step
 
     def goes_on(self, step: Step, caller: Caller) -> bool:
-        """Make a call for a step, and return whether the step goes on."""
+        """Make a call for a step, and return whether the step continues."""
         with self.lock:
             best = self.best
             step.drop(self.goal)
@@ -304,7 +304,7 @@ class Proof:
             return self.is_kept(step)
 
     def is_kept(self, step: Step) -> bool:
-        """Whether a thread goes on with a step. Else the step ends, and what is left of it waits."""
+        """Whether a thread continues a step. Else the step ends, and what is left of it waits."""
         count, is_shared = len(step.left) + len(step.rest), self.is_short()
         self.is_stopped = self.is_stopped or not self.budget
         if count and not self.is_stopped and step.nodes < GRAIN and not (is_shared and count > 1):

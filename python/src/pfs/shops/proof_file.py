@@ -1,5 +1,5 @@
-"""Proof files: how far a proof has come, from which it goes on, and which nodes have searched which orders, so that
-others can search them again. docs/FORMATS.md has the grammar."""
+"""Proof files: how far a proof has come, from which it continues, and which nodes have searched which orders, so
+that others can search them again. docs/FORMATS.md has the grammar."""
 from __future__ import annotations
 
 import contextlib
@@ -46,7 +46,7 @@ class ProofFile:
             os.close(self.lock)
 
     def read(self) -> Proof | None:
-        """Return the stored proof, or None if there is no file."""
+        """Return the stored proof, or None if the file is missing."""
         if self.path is not None:
             with contextlib.suppress(FileNotFoundError):
                 self.proof = read_proof(self.path, self.shop)
