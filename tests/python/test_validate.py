@@ -215,7 +215,14 @@ REJECTED: dict[Callable[[Any], object], list[tuple[Any, type[Exception], str]]] 
         *(({"prove": 1, name: [0]}, ValueError, "^prove needs a search without hold and move$")
           for name in ("hold", "move"))],
     SHOP.optimum: [(-1, ValueError, "^seconds must be 0 or more seconds, not -1.0$"),
-                   (None, TypeError, "^seconds must be a number of seconds, not None$")],
+                   ("1", TypeError, "^seconds must be a number of seconds, not '1'$")],
+    lambda words: SHOP.optimum(1, **words): [
+        *(({name: value}, kind, f"^{name} must be {why}") for name, least in (("nodes", 0), ("threads", 1), ("limit", 0))
+          for value, kind, why in ((least - 1, ValueError, f"from {least} to "), (2**64, ValueError, f"from {least} to"),
+                                   (1.5, TypeError, "an integer, not 1.5"), (True, TypeError, "an integer, not True"))),
+        ({"threads": 1001}, ValueError, "^threads must be from 1 to 1,000, not 1001$"),
+        ({"stop": 1}, TypeError, "^stop must be an event with `is_set`"),
+        ({"start": [0, 1]}, ValueError, "^start has 2 jobs, but the instance has 3$")],
     pfs.taillard: [(at, ValueError, f"number must be from 1 to 120, not {at}") for at in (0, 121)],
     lambda words: pfs.Instance(TIMES, **words): [
         ({"job_names": ["a"]}, ValueError, "^job_names has 1 names, but 3 are needed$"),
@@ -328,6 +335,7 @@ CALLS: dict[str, Callable[[], Any]] = {
     "pfs_prepare": lambda: pfs.Instance(TIMES).bound(), "pfs_makespan": lambda: SHOP.makespan([0, 1, 2]),
     "pfs_bound": SHOP.bound, "pfs_pairs_bound": lambda: SHOP.bound("pairs"), "pfs_neh": SHOP.neh,
     "pfs_table": lambda: SHOP.schedule([0, 1, 2]), "pfs_rounds": lambda: SHOP.solve(1, start=[0, 1, 2]),
+    "pfs_prove_parts": lambda: SHOP.optimum(start=[0, 1, 2]),
     "pfs_insert_ties": lambda: SHOP.best_place([0, 1], 2, ties="idle"),
     "pfs_construct_ties": lambda: SHOP.insert_all([0], [1], ties="idle"),
     "pfs_local_search_ties": lambda: SHOP.local_search([0, 1], ties="idle"),

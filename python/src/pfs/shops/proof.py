@@ -184,7 +184,8 @@ class Caller:
         found = self.call(parts, order, limit, nodes)
         took = time.monotonic() - begun
         if found.nodes == nodes:
-            self.nodes = max(1, min(max(self.nodes, MORE * nodes), int(nodes * CALL / max(took, 1e-9))))
+            fitting = int(nodes * CALL / max(took, 1e-9))
+            self.nodes = max(1, fitting) if took > CALL else max(self.nodes, min(MORE * nodes, fitting))
         closed = [at for at, part in enumerate(parts[:found.reached]) if at and part.bound >= found.makespan]
         return self.call(parts[:closed[0]], order, limit, nodes) if closed else found
 
