@@ -464,7 +464,7 @@ def test_a_plan_or_proof_that_is_interrupted_or_fails_loses_no_order(folder: pat
     assert process.returncode == 130 and time.monotonic() - begun < 10
     assert out.startswith(b"makespan ") and b"optimal" not in out and len(out.splitlines()) == 52
     assert len((folder / "out.csv").read_text().splitlines()) == 1001, "the schedule is lost"
-    monkeypatch.setattr(_library.library, "pfs_prove", lambda *_: _library.MEMORY)
+    monkeypatch.setattr(_library.library, "pfs_prove_parts", lambda *_: _library.MEMORY)
     monkeypatch.chdir(folder)
     assert _commands.main(["plan", "hard.csv", "--seconds", "0.1"]) == 4
 

@@ -7,7 +7,7 @@ import os
 from pfs.base.faults import Refused
 
 
-class StateFault(Refused, ValueError):
+class StateFault(Refused):
     """A file isn't the state that is asked for."""
 
 

@@ -27,6 +27,10 @@ LINE = re.compile(r"([0-9]+) (?:step ([1-9][0-9]*)|open)|\*(?: /([0-9]+))?"
 EVERY, MOST_BYTES = 0.5, 1_000_000
 
 
+class ProofFault(StateFault, ValueError):
+    """A file isn't the proof that is asked for."""
+
+
 class ProofFile:
     """The file of a proof, locked inside a `with` block. Without a path nothing is stored."""
 
@@ -51,7 +55,7 @@ class ProofFile:
             with contextlib.suppress(FileNotFoundError):
                 self.proof = read_proof(self.path, self.shop)
                 if self.proof.limit != (MOST if self.limit is None else self.limit):
-                    raise StateFault(f"{self.path}: a proof with {limit_text(self.proof.limit)}, not with "
+                    raise ProofFault(f"{self.path}: a proof with {limit_text(self.proof.limit)}, not with "
                                      f"{limit_text(self.limit)}")
         return self.proof
 
@@ -191,12 +195,12 @@ def read_proof(path: str, shop: Instance) -> Proof:
     try:
         jobs, machines, digest = instance_of(lines)
         if (jobs, machines, digest) != (shop.jobs, shop.machines, digest_of(shop)):
-            raise StateFault(f"{path}: the proof of another instance, of {jobs} jobs and {machines} machines")
+            raise ProofFault(f"{path}: the proof of another instance, of {jobs} jobs and {machines} machines")
         return proof_in(lines, shop)
     except (ValueError, LookupError, ArithmeticError) as error:
-        if isinstance(error, StateFault):
+        if isinstance(error, ProofFault):
             raise
-        raise StateFault(f"{path}: a proof file, but its lines make no sense") from None
+        raise ProofFault(f"{path}: a proof file, but its lines make no sense") from None
 
 
 def lines_in(path: str) -> list[str]:
@@ -204,12 +208,12 @@ def lines_in(path: str) -> list[str]:
     with open(path, "rb") as file:
         text = file.read().decode(errors="replace")
     if not text.startswith("pfs proof "):
-        raise StateFault(f"{path}: not a proof file")
+        raise ProofFault(f"{path}: not a proof file")
     if not text.startswith(f"{FORM}\n"):
-        raise StateFault(f"{path}: a proof file of another version of pfs ({text.splitlines()[0]!r})")
+        raise ProofFault(f"{path}: a proof file of another version of pfs ({text.splitlines()[0]!r})")
     body, _, last = text.removesuffix("\n").rpartition("\n")
     if last != sum_of(f"{body}\n"):
-        raise StateFault(f"{path}: a proof file, but damaged: its checksum is wrong")
+        raise ProofFault(f"{path}: a proof file, but damaged: its checksum is wrong")
     return body.split("\n")
 
 
