@@ -44,8 +44,8 @@ def cut(patch: pytest.MonkeyPatch, first: int, most: int, grain: int) -> None:
 @given(plainly.shops_and_orders(), st.integers(1, 5), st.integers(1, 3), st.integers(1, 9), st.sampled_from([1, 2, 5]))
 def test_no_order_is_shorter(case: tuple[plainly.Table, list[int]], first: int, most: int, grain: int,
                              threads: int) -> None:
-    """From NEH's order and from any other one, in one call and in many. However one thread is cut, it has the nodes, the
-    order and the bound of one call."""
+    """From NEH's order and from any other one, in one call and in many. However one thread is cut, it has the nodes,
+    the order and the bound of one call."""
     times, order = case
     shop, least = pfs.Instance(times), plainly.shortest(times)
     whole = shop.optimum(nodes=10**6, start=order)

@@ -58,7 +58,8 @@ def test_a_proof_goes_on(case: tuple[plainly.Table, list[int]], first: int, most
             listed = {part.row: part for step in again.root.all() for part in (*step.done, *step.rest)}
             assert [wrong(again, listed, step) for step in again.root.all() if step.done] == [""] * sum(
                 step.nodes > 0 for step in read.steps)
-        assert best.proof and (best.bound, best.proof.open) == (whole.bound, 0) and sorted(os.listdir(path.parent)) == [path.name]
+        assert best.proof and (best.bound, best.proof.open) == (whole.bound, 0)
+        assert os.listdir(path.parent) == [path.name]
         assert threads > 1 or (best.proof.nodes, best.order.tolist()) == (
             whole.proof and whole.proof.nodes, whole.order.tolist())
 
@@ -100,9 +101,9 @@ def damaged(change: Callable[[str], str]) -> Callable[[str], str]:
 
 
 WRONG: dict[str, tuple[Callable[[str], str], str]] = {
-    "empty": (lambda text: "", "not a proof file"),
+    "empty": (lambda text: "", ": not a proof file"),
     "other": (lambda text: json.dumps({"state": "pfs search 2"}), "not a proof file"),
-    "version": (lambda text: text.replace("pfs proof 1", "pfs proof 2"), "of another version of pfs .'pfs proof 2'."),
+    "version": (lambda text: text.replace("pfs proof 1", "pfs proof 2"), "of another version of pfs: 'pfs proof 2'"),
     "half": (lambda text: text[:len(text) // 2], "damaged: its checksum is wrong"),
     "a digit": (lambda text: text.replace("step ", "step 9", 1), "damaged: its checksum is wrong"),
     "a line less": (lambda text: "".join(text.splitlines(keepends=True)[:-1]), "damaged: its checksum is wrong"),
@@ -128,7 +129,7 @@ def test_what_is_refused(name: str, folder: pathlib.Path) -> None:
     pfs.taillard(11).optimum(nodes=5000, state=path)
     path.write_bytes(change(path.read_text()).encode(errors="surrogateescape"))
     before, shop = path.read_bytes(), pfs.taillard(12 if name == "instance" else 11)
-    with pytest.raises(ValueError, match=f"^{re.escape(str(path))}: .*{said}") as error:
+    with pytest.raises(ValueError, match=f"^{re.escape(str(path))}.*{re.escape(said)}$") as error:
         shop.optimum(1, state=path, limit=SPAN if name == "limit" else None)
     assert isinstance(error.value, StateFault) and path.read_bytes() == before
     assert os.listdir(folder) == ["state"]

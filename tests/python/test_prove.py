@@ -6,6 +6,7 @@ import pathlib
 import re
 import signal
 import subprocess
+from collections.abc import Callable
 from typing import Any
 
 import pfs
@@ -57,12 +58,14 @@ def test_what_is_kept_of_a_proof(experiment: Experiment) -> None:
     assert experiment.script("prove", *words, "--seconds", "60").status == 0
     found = kept(experiment)
     assert (found["nodes"], found["open"], found["seed"], found["version"]) == (147_590, 0, "7", pfs.__version__)
-    assert 0 < found["seconds"] < 60 and {*map(len, (found[name] for name in ("program", "library", "instance")))} == {64}
+    assert 0 < found["seconds"] < 60
+    assert [len(found[name]) for name in ("program", "library", "instance")] == [64] * 3
     assert experiment.script("prove", *words, "--seconds", "60").status == 0
     assert kept(experiment)["nodes"] == 147_590
     file = experiment.runs / found["proof"]
     said = "147590 nodes of 1 of 1 steps searched again: no order takes less than 1582\n"
-    for more in ([], ["--jobs", "3"], ["--share", "1/1"]):
+    options: list[list[str]] = [[], ["--jobs", "3"], ["--share", "1/1"]]
+    for more in options:
         assert experiment.script("prove", "--verify", str(file), *more) == Done(0, "", f"{file}: {said}")
     file.rename(experiment.folder / "elsewhere")
     assert experiment.script("prove", "--verify", "elsewhere") == Done(0, "", f"elsewhere: {said}"), "Taillard's"
@@ -82,7 +85,7 @@ def file_of_steps(folder: pathlib.Path, monkeypatch: pytest.MonkeyPatch) -> path
 
 
 def test_a_file_is_searched_again_in_shares(scripts: pathlib.Path, steps: pathlib.Path) -> None:
-    words = [scripts / "pfs-experiments", "prove", "--verify", "proof", "--instances", "mine"]
+    words: list[str | pathlib.Path] = [scripts / "pfs-experiments", "prove", "--verify", "proof", "--instances", "mine"]
     read = certificate_in(steps.read_text())
     count, goal = len(read.steps), read.goal
     assert count > 3
@@ -95,10 +98,11 @@ def test_a_file_is_searched_again_in_shares(scripts: pathlib.Path, steps: pathli
         total += int(match[1])
     assert total == sum(step.nodes for step in read.steps)
     got = run_tool(words[:-2], steps.parent)
-    assert got.status == 2 and "its instance, of 10 jobs and 10 machines, is not at hand: name its folder by" in got.stderr
+    said = "proof: its instance, of 10 jobs and 10 machines, is not at hand: name its folder by --instances\n"
+    assert got.status == 2 and got.stderr.endswith(said)
 
 
-FORGED = {
+FORGED: dict[str, tuple[Callable[[str], str], str]] = {
     "a step less": (lambda text: re.sub(r"\n\d+ step \d+\n(?:[^0-9].*\n)+$", "\n", text), "are left, and not listed"),
     "fewer nodes": (lambda text: re.sub(r"step \d+", "step 1", text), "are left, and not listed|1 nodes don't search"),
     "no steps": (lambda text: re.sub(r"\n0 step(.*\n)+", "\n", text), "the part of all orders is not listed"),
@@ -122,10 +126,11 @@ def test_a_forged_file_is_found(name: str, scripts: pathlib.Path, steps: pathlib
 
 @pytest.mark.parametrize(("words", "status", "said"), [
     ([], 3, "name a CSV, or a proof file by --verify"), (["a.csv", "--verify", "b"], 3, "name a CSV, or a proof file"),
-    (["--verify", "none"], 4, "none: No such file or directory"), (["--verify", "x", "--share", "0/2"], 3, "must be I/N"),
-    (["--verify", "x", "--share", "3/2"], 3, "must be I/N"), (["--verify", "x", "--share", "2"], 3, "must be I/N"),
-    (["out.csv", "--tmpdir", "x"], 3, "unrecognized arguments: --tmpdir x"), (["out.csv", "--jobs", "0"], 3, "from 1 to"),
-    (["--verify", "x"], 2, "x: not a proof file")])
+    (["--verify", "none"], 4, "none: No such file or directory"), (["--verify", "x"], 2, "x: not a proof file"),
+    *((["--verify", "x", "--share", text], 3, f"{text!r} must be I/N, with I from 1 to N")
+      for text in ("0/2", "3/2", "2", "1/", "-1/2", "a/b", "1/2/3")),
+    (["out.csv", "--tmpdir", "x"], 3, "unrecognized arguments: --tmpdir x"),
+    (["out.csv", "--jobs", "0"], 3, "from 1 to")])
 def test_what_is_refused(folder: pathlib.Path, scripts: pathlib.Path, words: list[str], status: int, said: str) -> None:
     (folder / "x").write_text("x")
     got = run_tool([scripts / "pfs-experiments", "prove", *words], folder)

@@ -217,9 +217,11 @@ REJECTED: dict[Callable[[Any], object], list[tuple[Any, type[Exception], str]]] 
     SHOP.optimum: [(-1, ValueError, "^seconds must be 0 or more seconds, not -1.0$"),
                    ("1", TypeError, "^seconds must be a number of seconds, not '1'$")],
     lambda words: SHOP.optimum(1, **words): [
-        *(({name: value}, kind, f"^{name} must be {why}") for name, least in (("nodes", 0), ("threads", 1), ("limit", 0))
-          for value, kind, why in ((least - 1, ValueError, f"from {least} to "), (2**64, ValueError, f"from {least} to"),
-                                   (1.5, TypeError, "an integer, not 1.5"), (True, TypeError, "an integer, not True"))),
+        *(({name: value}, kind, f"^{name} must be {why}")
+          for name, least in (("nodes", 0), ("threads", 1), ("limit", 0))
+          for value, kind, why in (
+              (least - 1, ValueError, f"from {least} to "), (2**64, ValueError, f"from {least} to"),
+              (1.5, TypeError, "an integer, not 1.5"), (True, TypeError, "an integer, not True"))),
         ({"threads": 1001}, ValueError, "^threads must be from 1 to 1,000, not 1001$"),
         ({"stop": 1}, TypeError, "^stop must be an event with `is_set`"),
         ({"start": [0, 1]}, ValueError, "^start has 2 jobs, but the instance has 3$")],

@@ -45,8 +45,8 @@ ARGUMENTS: list[tuple[str, str, dict[str, Any]]] = [
     ("prove", "csv", {"metavar": "CSV", "nargs": "?", "help": "the CSV of the runs"}),
     ("prove", "--seconds", {"metavar": "S", "type": number(1, 10 ** 6), "default": 1,
                             "help": "for each instance; 1 by default"}),
-    ("prove", "--reference", {"metavar": "CSV", "help": "a CSV with instance and makespan: where no order of the runs is "
-                              "as short, only shorter ones are searched for"}),
+    ("prove", "--reference", {"metavar": "CSV", "help": "a CSV with instance and makespan: where no run is as short, "
+                                                  "only shorter orders are searched for"}),
     ("prove", "--jobs", {"metavar": "N", "type": number(1, 10 ** 6),
                          "help": "N tasks at once, by GNU parallel, which gets the further options"}),
     ("prove", "--slurm", {"action": "store_true", "help": "as arrays of N tasks; sbatch gets the further options"}),
@@ -85,7 +85,8 @@ def command_line() -> CommandLine:
     parser.add_argument("--version", action=ShowVersion)
     commands = parser.add_subparsers(dest="command", required=True, metavar="COMMAND")
     for name, (module, text) in COMMANDS.items():
-        made = commands.add_parser(name, help=text, description=text, allow_abbrev=name not in ("run", "slurm", "prove"))
+        is_exact = name in ("run", "slurm", "prove")
+        made = commands.add_parser(name, help=text, description=text, allow_abbrev=not is_exact)
         made.set_defaults(module=module)
         for of, argument, options in ARGUMENTS:
             if name in of.split():
@@ -100,6 +101,8 @@ def command() -> int:
     args.options = options
     if options and args.command not in ("run", "slurm") and not (args.command == "prove" and args.jobs):
         parser.error(f"unrecognized arguments: {' '.join(options)}")
+    if args.command == "prove" and (args.csv is None) == (args.verify is None):
+        parser.error("name a CSV, or a proof file by --verify")
     for module in ("matplotlib", "pandas", "scipy") if args.command == "report" else ():
         optional(module, "a report")
     status: int = vars(importlib.import_module(f"pfs.experiments.{args.module}"))[args.command](args)

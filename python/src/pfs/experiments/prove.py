@@ -10,7 +10,6 @@ from typing import NamedTuple
 import pfs
 from pfs.base.faults import Fault
 from pfs.base.version import VERSION
-from pfs.commands.cli import Misused
 from pfs.experiments import ExperimentError, Options, folders, plain, run, shares, verify
 from pfs.experiments.plan import Row, reference_for, reference_of, rows_of
 from pfs.shops.solution import Solution
@@ -29,8 +28,6 @@ def prove(args: Options) -> int:
     """Proves a bound for each instance of a CSV, and adds the column `proved_bound` to it; or searches a proof file
     again. What is proved is kept in proofs.json next to the CSV, the proofs in the folder `proofs`, from which a later
     call continues, and an order that is shorter than all of the CSV next to the order files."""
-    if (args.csv is None) == (args.verify is None):
-        raise Misused("name a CSV, or a proof file by --verify")
     if args.verify:
         return verify.verify(args)
     experiment = folders.started(args.csv)

@@ -278,8 +278,8 @@ class Proved(TypedDict):
 
 
 class Proof(Proved, total=False):
-    """With where the search began, its nodes and processor seconds, how many parts are open, its proof file, and what it
-    was made with."""
+    """With where the search began, its nodes and processor seconds, how many parts are open, its proof file, and what
+    it was made with."""
     start: str
     seed: str
     nodes: int

@@ -40,8 +40,8 @@ class Case(NamedTuple):
 
 
 def search(args: Options, experiment: Experiment, cases: Sequence[Case]) -> bool:
-    """Searches what is open of some proofs, in rounds, until nothing is, or each has had its seconds. Returns whether it
-    was interrupted."""
+    """Searches what is open of some proofs, in rounds, until nothing is, or each has had its seconds. Returns whether
+    it was interrupted."""
     folder = experiment.folder / "proofs"
     with contextlib.ExitStack() as stack:
         files: dict[str, ProofFile] = {}

@@ -37,8 +37,9 @@ def verify(args: Options) -> int:
         print(plain(f"{args.verify}: {fault}"))
     parts = len(proof.open())
     text = f"{sum(step.nodes for step in own)} nodes of {len(own)} of {len(steps)} steps searched again"
-    said = f"{len(faults)} faults" if faults else f"no order takes less than {goal}" if not parts and own == steps else (
-        f"below {goal} {parts} parts are open" if parts else f"the others prove that none takes less than {goal}")
+    said = (f"{len(faults)} faults" if faults else f"below {goal} {parts} parts are open" if parts else
+            f"no order takes less than {goal}" if own == steps else
+            f"the others prove that none takes less than {goal}")
     print(plain(f"{args.verify}: {text}: {said}"), file=sys.stderr)
     return 1 if faults else 0
 

@@ -10,7 +10,7 @@ import operator
 import threading
 import time
 from collections.abc import Callable, Iterable, Iterator
-from ctypes import byref, c_uint64
+from ctypes import byref
 from typing import TYPE_CHECKING, Any, NamedTuple
 
 import numpy as np
@@ -152,7 +152,7 @@ class Found(NamedTuple):
 
 
 class Caller:
-    """Calls of the library with up to `most` parts, with the room for what they leave, and the nodes of the next one."""
+    """Calls of the library with up to `most` parts, with the room for what they leave, and the nodes of the next."""
 
     def __init__(self, shop: Instance, most: int = 0) -> None:
         self.shop, self.nodes = shop, FIRST

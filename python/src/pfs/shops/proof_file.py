@@ -210,7 +210,7 @@ def lines_in(path: str) -> list[str]:
     if not text.startswith("pfs proof "):
         raise ProofFault(f"{path}: not a proof file")
     if not text.startswith(f"{FORM}\n"):
-        raise ProofFault(f"{path}: a proof file of another version of pfs ({text.splitlines()[0]!r})")
+        raise ProofFault(f"{path}: a proof file of another version of pfs: {text.splitlines()[0]!r}")
     body, _, last = text.removesuffix("\n").rpartition("\n")
     if last != sum_of(f"{body}\n"):
         raise ProofFault(f"{path}: a proof file, but damaged: its checksum is wrong")
