@@ -100,24 +100,26 @@ def damaged(change: Callable[[str], str]) -> Callable[[str], str]:
     return changed
 
 
+DAMAGED = "state: a proof file, but damaged: its checksum is wrong"
+SENSELESS = "state: a proof file, but its lines make no sense"
 WRONG: dict[str, tuple[Callable[[str], str], str]] = {
-    "empty": (lambda text: "", ": not a proof file"),
-    "other": (lambda text: json.dumps({"state": "pfs search 2"}), "not a proof file"),
-    "version": (lambda text: text.replace("pfs proof 1", "pfs proof 2"), "of another version of pfs: 'pfs proof 2'"),
-    "half": (lambda text: text[:len(text) // 2], "damaged: its checksum is wrong"),
-    "a digit": (lambda text: text.replace("step ", "step 9", 1), "damaged: its checksum is wrong"),
-    "a line less": (lambda text: "".join(text.splitlines(keepends=True)[:-1]), "damaged: its checksum is wrong"),
-    "no end": (lambda text: text[:-2], "damaged: its checksum is wrong"),
-    "bytes": (lambda text: text.replace("version", "\udcff"), "damaged: its checksum is wrong"),
-    "makespan": (damaged(lambda text: re.sub(r"best \d+", "best 5", text)), "its lines make no sense"),
-    "start": (damaged(lambda text: text.replace("start ", "start 1 ")), "its lines make no sense"),
-    "no head": (damaged(lambda text: "pfs proof 1\n"), "its lines make no sense"),
-    "a depth": (damaged(lambda text: re.sub(r"\n0 step", "\n9 step", text)), "its lines make no sense"),
-    "a word": (damaged(lambda text: text.replace(" | ", " x ")), "its lines make no sense"),
-    "a job": (damaged(lambda text: text + "0 open\n> 0 | 0 : 99\n"), "its lines make no sense"),
-    "a job twice": (damaged(lambda text: text + "0 open\n> 0 2 | 0 : 2\n"), "its lines make no sense"),
-    "instance": (lambda text: text, "the proof of another instance, of 20 jobs and 10 machines"),
-    "limit": (lambda text: text, "a proof with limit none, not with limit 1582"),
+    "empty": (lambda text: "", "state: not a proof file"),
+    "other": (lambda text: json.dumps({"state": "pfs search 2"}), "state: not a proof file"),
+    "version": (lambda text: text.replace("pfs proof 1", "pfs proof 2"), "state: a proof file of another version of pfs: 'pfs proof 2'"),
+    "half": (lambda text: text[:len(text) // 2], DAMAGED),
+    "a digit": (lambda text: text.replace("step ", "step 9", 1), DAMAGED),
+    "a line less": (lambda text: "".join(text.splitlines(keepends=True)[:-1]), DAMAGED),
+    "no end": (lambda text: text[:-2], DAMAGED),
+    "bytes": (lambda text: text.replace("version", "\udcff"), DAMAGED),
+    "makespan": (damaged(lambda text: re.sub(r"best \d+", "best 5", text)), SENSELESS),
+    "start": (damaged(lambda text: text.replace("start ", "start 1 ")), SENSELESS),
+    "no head": (damaged(lambda text: "pfs proof 1\n"), SENSELESS),
+    "a depth": (damaged(lambda text: re.sub(r"\n0 step", "\n9 step", text)), SENSELESS),
+    "a word": (damaged(lambda text: text.replace(" | ", " x ")), SENSELESS),
+    "a job": (damaged(lambda text: text + "0 open\n> 0 | 0 : 99\n"), SENSELESS),
+    "a job twice": (damaged(lambda text: text + "0 open\n> 0 2 | 0 : 2\n"), SENSELESS),
+    "instance": (lambda text: text, "state: the proof of another instance, of 20 jobs and 10 machines"),
+    "limit": (lambda text: text, "state: a proof with limit none, not with limit 1582"),
 }
 
 
@@ -129,7 +131,7 @@ def test_what_is_refused(name: str, folder: pathlib.Path) -> None:
     pfs.taillard(11).optimum(nodes=5000, state=path)
     path.write_bytes(change(path.read_text()).encode(errors="surrogateescape"))
     before, shop = path.read_bytes(), pfs.taillard(12 if name == "instance" else 11)
-    with pytest.raises(ValueError, match=f"^{re.escape(str(path))}.*{re.escape(said)}$") as error:
+    with pytest.raises(ValueError, match=f"/{re.escape(said)}$") as error:
         shop.optimum(1, state=path, limit=SPAN if name == "limit" else None)
     assert isinstance(error.value, StateFault) and path.read_bytes() == before
     assert os.listdir(folder) == ["state"]

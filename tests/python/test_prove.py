@@ -128,7 +128,7 @@ def test_a_forged_file_is_found(name: str, scripts: pathlib.Path, steps: pathlib
     ([], 3, "name a CSV, or a proof file by --verify"), (["a.csv", "--verify", "b"], 3, "name a CSV, or a proof file"),
     (["--verify", "none"], 4, "none: No such file or directory"), (["--verify", "x"], 2, "x: not a proof file"),
     *((["--verify", "x", "--share", text], 3, f"{text!r} must be I/N, with I from 1 to N")
-      for text in ("0/2", "3/2", "2", "1/", "-1/2", "a/b", "1/2/3")),
+      for text in ("0/2", "3/2", "2", "1/", "a/b", "1/2/3")),
     (["out.csv", "--tmpdir", "x"], 3, "unrecognized arguments: --tmpdir x"),
     (["out.csv", "--jobs", "0"], 3, "from 1 to")])
 def test_what_is_refused(folder: pathlib.Path, scripts: pathlib.Path, words: list[str], status: int, said: str) -> None:
