@@ -28,7 +28,7 @@ if TYPE_CHECKING:
     from pfs.schedules.schedule import Schedule
     from pfs.shops.instance import Check, Instance, Place
     from pfs.shops.many import solve_all
-    from pfs.shops.solution import Improvement, Interrupted, InterruptedAll, Sequence, Solution
+    from pfs.shops.solution import Improvement, Interrupted, InterruptedAll, Proved, Sequence, Solution
 else:
     def __getattr__(name: str) -> object:
         """Import a name of the package at its first use: `pfs-gantt` and `pfs.experiments` need no library."""
@@ -44,8 +44,8 @@ else:
 
 __all__ = [
     "Audited", "Calendar", "Check", "Fault", "FileFault", "Improvement", "Instance", "Interrupted", "InterruptedAll",
-    "OrderFault", "Place", "Report", "Rest", "Schedule", "Sequence", "Solution", "TableFault", "__version__", "audit",
-    "from_frame", "generate", "parse_order", "read", "read_all", "read_csv", "read_order", "solve_all", "taillard",
+    "OrderFault", "Place", "Proved", "Report", "Rest", "Schedule", "Sequence", "Solution", "TableFault", "__version__",
+    "audit", "from_frame", "generate", "parse_order", "read", "read_all", "read_csv", "read_order", "solve_all", "taillard",
 ]
 
 

@@ -26,7 +26,7 @@ class Improvement(NamedTuple):
 
 class Proved(NamedTuple):
     """How far a proof has come: its nodes, the processor seconds of all its calls, and how many parts are left to be
-    searched, with their share of all orders. Nothing is left of a proof that has ended."""
+    searched, with their share of all orders. A proof that has ended has none left."""
 
     nodes: int
     seconds: float
