@@ -31,9 +31,9 @@ from pfs.commands.cli import CommandLine, Misused, ShowVersion, number, report, 
 from pfs.files.instances import content_of, read, read_order
 from pfs.files.state import State
 from pfs.files.tables import Table, described, table_of, write_table
-from pfs.plan.dates import dates_in, is_of_another
+from pfs.plan.dates import is_of_another
 from pfs.plan.options import DECIMAL_SIGNS, OPTIONS, options_in
-from pfs.plan.orders import FoundOrder, moved, numbers_by_name, order_in, stated_end
+from pfs.plan.orders import FoundOrder, moved, near_names, numbers_by_name, order_in, stated_end
 from pfs.plan.plan import Limits, Plan, calendar_of, is_provable
 from pfs.schedules.calendar import Calendar, Clock, needed, text_of as date_text
 from pfs.schedules.chart import ending_of
@@ -199,7 +199,7 @@ def outputs_of(given: argparse.Namespace, plan: Plan, table: Table,
     return [
         lambda: printed(plan.text(given.report)),
         *(partial(plan.write, path, *style) for path in given.schedule),
-        *(partial(write_table, path, plan.shop, *style) for path in given.rest),
+        *(partial(write_table, path, plan.shop, *style, table.sheet) for path in given.rest),
         *(partial(plan.chart, chart, given.title) for chart in given.chart),
         *(partial(compare, given.compare, plan, other) for other in others)]
 
@@ -208,14 +208,17 @@ def begun_plan(given: argparse.Namespace, shop: Instance, calendar: Calendar | N
     """How a plan begins: with the table and an order, or with what is left of them at `given.now`."""
     found = FoundOrder([], {}) if given.order is None else order_in(given.order, shop, given.language)
     if given.now is None and not given.down:
+        tell(given.order, is_of_another(shop, found, given.order) if found.rows else "")
         return Plan(shop, found, given.hold, calendar, given.language)
     if calendar is None or given.order is None and given.now:
         raise ValueError("--now needs --begin and --order, and --down needs --begin")
     before = Plan(shop, found, 0, calendar, given.language)
-    plan, done = before.rest(given.now or given.begin, given.down, given.hold, given.order)
-    assert plan.calendar is not None and before.clock is not None
-    if given.now and given.order:
-        tell(given.order, is_of_another(shop, dates_in(shop, found, given.order), before.clock))
+    numbers = numbers_by_name(shop)
+    plan, done = before.rest(given.now or given.begin, given.down, given.hold, given.order,
+                             [numbers[name] for name in given.first if name in numbers], given.keep)
+    assert plan.calendar is not None
+    for note in plan.notes:
+        tell(given.order or given.table, *note)
     begin, held = plan.calendar.begin, len(plan.held)
     written(sys.stderr, f"from {date_text(begin, 0 if begin.second else -1)} on: {len(done)} finished, {held} held, "
                         f"{plan.shop.jobs - held} to plan\n")
@@ -233,23 +236,27 @@ def plan_search(given: argparse.Namespace, plan: Plan) -> Search:
     plan.hold(map(numbers.__getitem__, given.first))
     new = []
     if given.order is not None:
+        near = near_names(FoundOrder(plan.order, plan.gone), plan.shop)
         new = plan.fill()
-        tell(given.order, "left out, as the table has no such jobs", plan.gone)
+        tell(given.order, "left out, as the table has no such jobs",
+             [f"{name} ({near[name]}?)" if name in near else name for name in plan.gone])
         tell(given.order, "new, and inserted at their best places", [plan.shop.job_name(job) for job in new])
     return plan.search(given.seed, given.method, given.take, given.passes, new if given.keep else None)
 
 
 def compare(path: str, plan: Plan, found: FoundOrder) -> None:
     """Say on standard error what differs between another order and the plan: the ends, and the jobs that moved."""
-    stated, names = stated_end(path), plan.shop.job_name
+    stated, names = stated_end(path, found), plan.shop.job_name
+    tell(path, is_of_another(plan.shop, found, path) if found.rows else "")
     tell(path, f"says {stated}" if stated else "")
     if len(found.jobs) == plan.shop.jobs and not found.gone:
         before = Plan(plan.shop, found, 0, plan.calendar)
         tell(path, f"{', '.join(before.ends())}; the plan", [", ".join(plan.ends())])
     tell(path, "not in the plan", found.gone)
     tell(path, "new in the plan", [names(job) for job in plan.order if job not in found.jobs])
-    tell(path, "moved", [f"{names(job)} (place {found.jobs.index(job) + 1} to {plan.order.index(job) + 1})"
-                         for job in moved(plan.order, found.jobs)])
+    places = {job: (found.jobs.index(job) + 1, plan.order.index(job) + 1) for job in moved(plan.order, found.jobs)}
+    tell(path, "moved", [f"{names(job)} (place {before}{f' to {after}' * (after != before)})"
+                         for job, (before, after) in places.items()])
 
 
 def tell(path: str, what: str, names: Iterable[str] | None = None) -> None:
@@ -375,7 +382,7 @@ def add_plan_words(plan: argparse.ArgumentParser) -> None:
         "others, as jobs and machines")
     add("--sheet", metavar="NAME", help="the sheet of a workbook, else the one that it opens with")
     add("--decimals", metavar="D",
-        help="round times with more decimals than this, 0 to 9; by default none is rounded")
+        help="round times with more decimals than this, 0 to 9; by default only what a formula computed, to the second")
     add_order_words(adder(plan.add_argument_group("the order")))
     add_date_words(adder(plan.add_argument_group("dates and shifts")))
     add = adder(plan.add_argument_group("what is written"))
@@ -408,9 +415,11 @@ def add_order_words(add: Callable[..., object]) -> None:
     add("--keep", help="the jobs of --order keep their order; only new ones are moved")
     add("--now", metavar="DATETIME",
         help="plan what is left at this date and time of --order, which began at --begin: jobs that are finished are "
-        "left out, and those that have begun are held, with the times that are left")
+        "left out, and those that have begun are held, with the times that are left. What really happened is in the "
+        "columns begun and ended of a schedule")
     add("--down", metavar="MACHINE=DATETIME",
-        help="until when a machine is down, from --now or --begin on; may be given more than once")
+        help="until when a machine is down, from --now or --begin on; jobs that skip it may come first; may be given "
+        "more than once")
     add("--compare", metavar="FILE",
         help="another order, as for --order: standard error says how both end, with this table and these shifts, what "
         "the other one says of its own end, and which jobs moved")
