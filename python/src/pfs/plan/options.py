@@ -122,7 +122,7 @@ def option_of(name: str, texts: Sequence[str]) -> str:
     if len(texts) > 1:
         raise ValueError(f"{name} has several values: write a row for each")
     if len(texts) != (read is not None):
-        raise ValueError(f"argument --{found}: it has {'no' if texts else 'a'} value")
+        raise ValueError(f"argument --{found}: {'it takes no value' if texts else 'its value is missing'}")
     try:
         OPTIONS[found].value(texts)
     except ValueError as fault:

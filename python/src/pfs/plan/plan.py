@@ -2,8 +2,9 @@
 them of options, and the page for planners of requests."""
 from __future__ import annotations
 
+import contextlib
 from collections.abc import Callable, Iterable, Iterator, Sequence
-from datetime import datetime
+from datetime import datetime, timedelta
 from functools import cached_property
 from typing import Any, NamedTuple
 
@@ -11,10 +12,10 @@ import numpy as np
 
 from pfs.base.names import shown
 from pfs.base.units import CLOCK, amount
-from pfs.plan.dates import begun_before, check_past, dates_in, ends_of, exact, is_of_another, marks_in, with_finished
+from pfs.plan.dates import begun_before, check_past, dates_in, ends_of, is_of_another, marks_in, with_finished
 from pfs.plan.floor import Floor
 from pfs.plan.orders import AFTER_ORDER, FoundOrder, filled
-from pfs.schedules.calendar import Calendar, Clock, begin_of, needed, text_of
+from pfs.schedules.calendar import MINUTE, Calendar, Clock, begin_of, needed, text_of
 from pfs.schedules.report import JOBS, Report, rows_of, text_table
 from pfs.plan.passing import arranged
 from pfs.schedules.rest import begun, left_of, shop_of
@@ -121,12 +122,21 @@ class Plan:
         """The makespan, and when it is finished; not if there are no dates, or the calendar ends before."""
         found = [f"makespan {self.span(self.best.makespan)}"]
         if self.clock is not None:
-            try:
-                end = self.clock.span(0, self.best.makespan)[1]
-            except ValueError:
-                return found
-            found.append(f"end {text_of(end, self.clock.digits(self.schedule.starts, self.schedule.ends))}")
+            with contextlib.suppress(ValueError):
+                found.append(f"end {self.moment(self.clock.span(0, self.best.makespan)[1])}")
         return found
+
+    @cached_property
+    def digits(self) -> int:
+        """How many decimals seconds have for people; -1 without seconds, where all that takes time takes a minute."""
+        assert self.clock is not None
+        times = self.shop.times[self.shop.times > 0]
+        is_long = times.size > 0 and self.clock.worked(int(times.min())) >= MINUTE
+        return -1 if is_long else self.clock.digits(self.schedule.starts, self.schedule.ends)
+
+    def moment(self, moment: datetime) -> str:
+        """A date and time for people, to the nearest minute if that is enough."""
+        return text_of(moment + timedelta(seconds=30 if self.digits < 0 else 0), self.digits)
 
     def machines(self) -> list[tuple[Any, ...]]:
         """The rows of a table of the machines, with its heads."""
@@ -134,8 +144,9 @@ class Plan:
 
     def jobs(self) -> list[list[str]]:
         """Each job, in their order, with its start and its end."""
-        span = self.schedule._texts(self.calendar)
-        return [[each.name, *span(each.start, each.end)] for each in self.report.jobs]
+        clock = self.clock
+        return [[each.name, *([self.amount(each.start), self.amount(each.end)] if clock is None else
+                              map(self.moment, clock.span(each.start, each.end)))] for each in self.report.jobs]
 
     def text(self, is_reported: bool = False) -> str:
         """What `pfs-plan` prints, perhaps with a report."""
@@ -148,7 +159,7 @@ class Plan:
             lines += [AFTER_ORDER, f"{text_table(machines)}\nbottleneck {shown(self.report.bottleneck)}\n",
                       text_table(jobs).rstrip("\n")]
             if self.planned:
-                rows = [[shown(name), *map(exact, ends)] for name, *ends in self.compared()]
+                rows = [[shown(name), *map(self.moment, ends)] for name, *ends in self.compared()]
                 lines += ["", text_table([["job", "planned end", "end"], *rows]).rstrip("\n")]
         return "\n".join(lines) + "\n"
 
