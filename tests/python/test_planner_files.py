@@ -124,7 +124,7 @@ def test_options_on_a_sheet(tmp_path: pathlib.Path, sheets: dict[str, Sequence[S
     *(([name], "with --help or --version nothing is planned") for name in ("version", "help")),
     (["take", 0], "argument --take: '0' is not a whole number from 1 to 5,000"),
     (["report", 1], "argument --report: it takes no value"), (["--begin"], "argument --begin: its value is missing"),
-    (["s", 1], "unrecognized arguments: --s=1"), (["method", "best"], "argument --method: 'best' is none of solve, iter"),
+    (["s", 1], "unrecognized arguments: --s=1"), (["method", "best"], "argument --method: 'best' is none of solve"),
     (["down", "saw"], "argument --down: 'saw' is not a machine and a time such as"),
     (["lang", "fr"], "--language names a file, which only the command line may do"),
     (["shift", "06:00-12:00", "13:00-17:00"], "shift has several values: write a row for each")])
