@@ -78,7 +78,7 @@ def test_what_a_schedule_says_of_later_changes_nothing(folder: pathlib.Path) -> 
 
 
 @pytest.mark.parametrize(("old", "new", "said"), [
-    ("2026-11-30 06:00", "30.11.2026 06:00", "cell C2: '30.11.2026 06:00' isn't a date and time such as"),
+    ("2026-11-30 06:00", "11/30/2026 06:00", "cell C2: '11/30/2026 06:00' isn't a date and time such as"),
     ("2026-11-30 06:00", "2026-11-31 06:00", "cell C2: '2026-11-31 06:00' isn't a date and time such as"),
     ("2026-11-30 06:00", "", "cell C2: '' isn't a date and time such as"),
     ("table;drill", "table;lathe", "cell B5: the table has no machine 'lathe': the schedule is of another table"),
@@ -88,7 +88,10 @@ def test_dates_that_are_none(folder: pathlib.Path, old: str, new: str, said: str
     assert old in text
     (folder / "monday.csv").write_text(text.replace(old, new, 1))
     assert f"monday.csv: {said}" in plan(folder, *WEEK, *NOW, status=2)[1]
-    plan(folder, *WEEK, "--order", "monday.csv")
+    # As an order it will do.
+    got = plan(folder, *WEEK, "--order", "monday.csv")[1]
+    assert got == (f"monday.csv: {said.partition(': ')[2]}\n" if "lathe" in said else
+                   "monday.csv: 'table' is on 'saw' twice\n" if "twice" in said else "")
 
 
 @pytest.mark.parametrize(("seconds", "sign"), [(":00", ""), (":00.0", "."), (":00,000000", ",")])
@@ -149,13 +152,92 @@ def test_a_schedule_with_a_rest_and_the_one_before(folder: pathlib.Path) -> None
 def test_a_schedule_of_another_table(folder: pathlib.Path) -> None:
     """Also where the difference is only in what follows. An operation may last longer than its time: for a break."""
     other = ("monday.csv: is of another table: 'box' is on 'saw' from 2026-12-01 08:10 to 2026-12-01 08:40, and takes "
-             "longer in this one\n")
+             "31 in this one\n")
     for time, said in ((30, ""), (31, other), (20, "")):
         (folder / "times.csv").write_text(TABLE.replace("box;30;90", f"box;{time};90"))
         assert plan(folder, *WEEK, *NOW)[1] == f"{said}from 2026-12-01 08:10 on: 0 finished, 3 held, 1 to plan\n"
     # The drill needs 90 minutes until ten past six of Wednesday, and there may have been overtime.
     (folder / "times.csv").write_text(TABLE.replace("box;30;90", "box;30;900"))
     assert "another" not in plan(folder, *WEEK, *NOW)[1]
+
+
+def test_numbers_of_another_table(folder: pathlib.Path) -> None:
+    """A schedule without dates has all times, also of --compare, and in hours and minutes."""
+    plan(folder, "--order", "order", "--schedule", "plain.csv")
+    assert "another" not in plan(folder, "--order", "plain.csv")[1]
+    (folder / "times.csv").write_text(TABLE.replace("box;30;90", "box;30;80") + "new;1;1\n")
+    said = "plain.csv: is of another table: 'box' is on 'drill' from 880 to 970, and takes 80 in this one\n"
+    assert plan(folder, "--order", "plain.csv")[1].startswith(said)
+    assert said in plan(folder, "--order", "order", "--compare", "plain.csv")[1]
+    (folder / "clock.csv").write_text("job [h:mm];saw\na;1:30\nb;0:05\n")
+    plan(folder, "--order", "order", "--schedule", "plain.csv", table="clock.csv", status=2)
+    plan(folder, "--schedule", "plain.csv", table="clock.csv")
+    assert plan(folder, "--order", "plain.csv", table="clock.csv")[1] == ""
+    (folder / "clock.csv").write_text("job [h:mm];saw\na;1:31\nb;0:05\n")
+    assert "and takes 1:31 in this one" in plan(folder, "--order", "plain.csv", table="clock.csv")[1]
+
+
+def test_a_csv_that_a_spreadsheet_saved(folder: pathlib.Path) -> None:
+    """In German, and without the seconds that it doesn't show."""
+    (folder / "times.csv").write_text("job [h];saw;drill\na;0,123457;2,333333\nb;1,111111;0,5\nc;5;2,000001\n")
+    plan(folder, *WEEK, "--rounds", "0", "--schedule", "plan.csv")
+    now = [*WEEK, "--now", "2026-11-30T07:30", "--rest", "rest.csv", "--order", "plan.csv"]
+    before = plan(folder, *now), (folder / "rest.csv").read_bytes()
+    text = (folder / "plan.csv").read_text("utf-8-sig")
+    saved = re.sub(r"(\d{4})-(\d\d)-(\d\d) (\d\d:\d\d):[\d,]+", r"\3.\2.\1 \4", text)
+    assert saved.count(".11.2026") == text.count("2026-11")
+    (folder / "plan.csv").write_text(saved)
+    assert (plan(folder, *now), (folder / "rest.csv").read_bytes()) == before
+    assert "plan.csv: says end 2026-11-30 " in plan(folder, *WEEK, "--compare", "plan.csv")[1]
+    (folder / "times.csv").write_text("job [h];saw;drill\na;0,173457;2,333333\nb;1,111111;0,5\nc;5;2,000001\n")
+    assert "but by this table" in plan(folder, *now, status=3)[1]
+
+
+@pytest.mark.parametrize("seed", range(5))
+def test_a_third_day_with_tables_that_lack_what_is_finished(tmp_path: pathlib.Path, seed: int) -> None:
+    """An export has all times of the jobs that aren't finished, also of those that have begun: on the third day the
+    plan is that of the rest of the second one."""
+    chance, compared = random.Random(seed), 0
+    for _ in range(12):
+        rows = {f"job{number}": [chance.choice([0, chance.randint(1, 200)]) for _ in range(3)] for number in range(8)}
+        rows = {name: row if any(row) else [9, 9, 9] for name, row in rows.items()}
+        floor = Floor(random.Random(0))
+        floor.machines = ["saw", "drill", "paint"]
+        write_times(tmp_path / "times.csv", floor, rows)
+        plan(tmp_path, *WEEK, "--rounds", "3", "--schedule", "monday.csv")
+        last = max(minute_of(row[3]) for row in rows_in(tmp_path / "monday.csv"))
+        day, next_day = sorted(chance.sample([at for at in range(380, last) if 360 < at % DAY < 840], 2))
+        begin, order = text_at(360), "monday.csv"
+        for now, own, rest in ((day, "tuesday.csv", "rest.csv"), (next_day, "wednesday.csv", "left.csv")):
+            words = ["--begin", begin, *WEEK[2:], "--order", order, "--now", text_at(now), "--rounds", "2",
+                     "--schedule", own, "--rest", rest]
+            status, printed, got = ended(["plan", "times.csv", *words], tmp_path)
+            if status:
+                assert "by this table" in got or "all jobs are finished" in got, got
+                break
+            # A single job that has begun on its first machine alone may be of another table, which is said.
+            if now == next_day and "is of another table" not in got:
+                assert "tuesday.csv: has all times of jobs that had begun before; what was left then is planned: " in (
+                    got)
+                other = ended(["plan", "rest.csv", *words[:-1], "other.csv"], tmp_path)
+                assert (status, printed) == other[:2]
+                assert (tmp_path / "left.csv").read_text() == (tmp_path / "other.csv").read_text()
+                compared += 1
+            found = re.search("from (.*) on:", got)
+            assert found
+            begin, order, due = found[1], own, {row[0] for row in rows_in(tmp_path / rest)}
+            write_times(tmp_path / "times.csv", floor, {name: row for name, row in rows.items() if name in due})
+    assert compared > 5
+
+
+def test_a_time_that_has_changed_is_no_time_that_was_left(folder: pathlib.Path) -> None:
+    """Of a job that was not first: lamp skipped the saw when the schedule was made."""
+    (folder / "times.csv").write_text(TABLE.replace("lamp;60;30", "lamp;0;30"))
+    plan(folder, *WEEK, "--order", "order", "--schedule", "monday.csv")
+    (folder / "times.csv").write_text(TABLE)
+    assert plan(folder, *WEEK, *NOW, status=3)[1] == (
+        "pfs: monday.csv: has no work of 'lamp' on 'saw', where it starts at 2026-12-01 07:10 by this table and these "
+        f"shifts: {HINT}\n")
 
 
 # Random weeks, against a simulation of the floor in minutes from the midnight before Monday, 2026-11-30
@@ -232,6 +314,13 @@ class Floor:
                     "--closed", date]
         return words
 
+    def end_after(self, minute: int, work: int) -> int:
+        """When this much is worked from a minute on."""
+        while work:
+            work -= self.is_open(minute)
+            minute += 1
+        return minute
+
     def work(self, rows: list[list[str]], begin: int, now: int) -> None:
         """What a schedule says happens until now. No machine works in a break or on two jobs, and no job overtakes."""
         for job, machine, *moments in rows:
@@ -260,9 +349,36 @@ def write_times(path: pathlib.Path, floor: Floor, times: dict[str, list[int]]) -
                                *(",".join([name, *map(str, row)]) for name, row in times.items())]) + "\n")
 
 
+def happened(path: pathlib.Path, floor: Floor, begin: int, now: int) -> list[list[str]]:
+    """What really happens until now, of what a schedule says: some operations take more or less time, which is marked
+    in it, and the others follow."""
+    chance, ends, real = floor.chance, defaultdict[str, int](int), list[list[str]]()
+    lines = [path.read_text("utf-8-sig").splitlines()[0] + ",begun,ended"]
+    for job, machine, *moments in rows_in(path):
+        start, end = map(minute_of, moments)
+        work, cell = floor.needs[job, machine] - floor.done[job, machine], ""
+        if start < min(end, now):
+            start = max(start, ends[job], ends[machine])
+            start = floor.next_open(start) if start < now else start
+            real_work = max(1, work + chance.choice([0, chance.randint(-60, 90)] if job[0] != "(" else [0]))
+            if start < now:
+                end = floor.end_after(start, real_work)
+                real.append([job, machine, text_at(start), text_at(end)])
+                floor.needs[job, machine] += real_work - work
+                cell = text_at(end) if real_work != work else ""
+                if cell[:10] == text_at(now)[:10] and chance.random() < .5:
+                    cell = cell[11:]
+                elif cell and chance.random() < .5:
+                    cell = f"{datetime.fromisoformat(cell):%d.%m.%Y %H:%M}"
+            ends[job] = ends[machine] = end if start < now else DAYS * DAY
+        lines.append(",".join([job, machine, *moments, "", cell]))
+    path.write_text("\n".join(lines) + "\n")
+    return real
+
+
 def one_day(folder: pathlib.Path, floor: Floor, begin: int, number: int) -> int | None:
-    """Work until a moment, and plan what is left: with a changed calendar, rush jobs, a machine that is down, and
-    perhaps without the rows of finished jobs. Return from when on it is planned, if a job is left."""
+    """Work until a moment, and plan what is left: with what really happened, a changed calendar, rush jobs, a machine
+    that is down, and perhaps without the rows of finished jobs. Return from when on it is planned, if a job is left."""
     chance, old = floor.chance, rows_in(folder / "plan.csv")
     end = max(minute_of(row[3]) for row in old)
     now = chance.randint(begin, end)
@@ -270,7 +386,7 @@ def one_day(folder: pathlib.Path, floor: Floor, begin: int, number: int) -> int 
     floor.change(now)
     assert before == {minute for minute in range(now) if floor.is_open(minute)}
     before_now = dict(floor.done)
-    floor.work(old, begin, now)
+    floor.work(happened(folder / "plan.csv", floor, begin, now) if chance.random() < .5 else old, begin, now)
     times = times_in(folder / "times.csv")
     finished = {name for name in times if not any(floor.left(name))}
     if len(finished) == len(times):
@@ -300,8 +416,12 @@ def one_day(folder: pathlib.Path, floor: Floor, begin: int, number: int) -> int 
             repair = sum(floor.is_open(minute) for minute in range(then, down.get(machine, then)))
             more = time - (0 if name in pauses and (name, machine) not in floor.needs else
                            floor.needs[name, machine] - floor.done[name, machine])
-            assert more in (0, repair), (name, machine, time)
+            assert more in (0, repair) or name in pauses and 0 < more <= repair, (name, machine, time)
             floor.needs[name, machine] = floor.needs.get((name, machine), 0) + more
+    # A machine that is down does nothing but go on with the operation that it interrupts.
+    for name, machine, *moments in rows_in(folder / "next.csv"):
+        assert (floor.done[name, machine] or name in pauses or moments[0] == moments[1]
+                or minute_of(moments[0]) >= down.get(machine, 0)), (name, machine)
     assert int(held[2]) == len(finished & {row[0] for row in old})
     (folder / "plan.csv").write_bytes((folder / "next.csv").read_bytes())
     (folder / "times.csv").write_bytes((folder / "rest.csv").read_bytes())
@@ -312,10 +432,10 @@ def floor_names(floor: Floor) -> list[str]:
     return [*dict.fromkeys(name for name, _ in floor.needs)]
 
 
-@pytest.mark.seconds(60)
-@pytest.mark.parametrize("seed", range(6))
+@pytest.mark.seconds(20)
+@pytest.mark.parametrize("seed", range(4))
 def test_random_weeks(tmp_path: pathlib.Path, seed: int) -> None:
-    for week in range(50):
+    for week in range(15):
         floor = Floor(random.Random(100 * seed + week))
         floor.add(*(f"job{number}" for number in range(floor.chance.randint(2, 7))))
         write_times(tmp_path / "times.csv", floor, {name: floor.left(name) for name in floor_names(floor)})

@@ -123,6 +123,10 @@ def test_options_on_a_sheet(tmp_path: pathlib.Path, sheets: dict[str, Sequence[S
     (["nothing", 3], "unrecognized arguments: --nothing=3"),
     *(([name], "with --help or --version nothing is planned") for name in ("version", "help")),
     (["take", 0], "argument --take: '0' is not a whole number from 1 to 5,000"),
+    (["report", 1], "argument --report: it takes no value"), (["--begin"], "argument --begin: its value is missing"),
+    (["s", 1], "unrecognized arguments: --s=1"), (["method", "best"], "argument --method: 'best' is none of solve"),
+    (["down", "saw"], "argument --down: 'saw' is not a machine and a time such as"),
+    (["lang", "fr"], "--language names a file, which only the command line may do"),
     (["shift", "06:00-12:00", "13:00-17:00"], "shift has several values: write a row for each")])
 def test_a_sheet_of_options_names_no_file(tmp_path: pathlib.Path, row: list[object], said: str) -> None:
     """A workbook may come from a stranger."""
@@ -165,3 +169,69 @@ def test_hidden_rows_and_columns(tmp_path: pathlib.Path, office: Office, rows: l
             warnings.simplefilter("always")
             assert pfs.read_csv(made).times.tolist() == [[300, 200], [250, 400]]
         assert [str(each.message) for each in caught] == ([f"{made}: {said}"] if said else [])
+
+
+# Names in an order that nearly match
+
+NAMES = ["FA-004721", "FA-004727", "FA-004742", "Deckel", "saw 1", "saw 10"]
+
+
+@pytest.mark.parametrize(("name", "near"), [
+    ("fa-004742", "FA-004742"), ("FA-004727  (eilt)", "FA-004727"), ("4721", "FA-004721"), ("FA 4721", "FA-004721"),
+    ("deckel_", "Deckel"), ("004721", "FA-004721"), ("472", ""), ("47421", ""), ("FA", ""), ("saw1", "saw 1"),
+    ("saw", ""), ("saw 100", ""), ("Boden", ""), ("1", "")])
+def test_a_name_that_nearly_matches_is_proposed(tmp_path: pathlib.Path, name: str, near: str) -> None:
+    """If one job alone may be meant, which has no place."""
+    (tmp_path / "times.csv").write_text("job;saw\n" + "".join(f"{each};1\n" for each in [*NAMES, "a", "b"]))
+    (tmp_path / "order").write_text(f"a\nb\n{name}\n")
+    got = ended(["plan", "times.csv", "--order", "order"], tmp_path)
+    assert got[0] == 0 and got[2].splitlines()[0] == (
+        f"order: left out, as the table has no such jobs: {name}" + f" ({near}?)" * bool(near))
+    if near:
+        (tmp_path / "order").write_text(f"a\n{near}\nb\n{name}\n")
+        assert f": {name}\n" in ended(["plan", "times.csv", "--order", "order"], tmp_path)[2]
+
+
+def test_an_order_whose_names_mostly_nearly_match_is_refused(tmp_path: pathlib.Path) -> None:
+    """But not one of jobs that are finished, most of which the table lacks."""
+    (tmp_path / "times.csv").write_text("job;saw\n" + "".join(f"{each};1\n" for each in NAMES))
+    (tmp_path / "order").write_text("Deckel\nfa-004742\n4721\n")
+    assert ended(["plan", "times.csv", "--order", "order"], tmp_path) == (
+        2, "", "pfs: order: line 2, 'fa-004742' isn't a job of the table: write 'FA-004742' if it is that (and 1 more "
+        "nearly match)\n")
+    (tmp_path / "order").write_text("Deckel\nFA-004699\nFA-004700\nFA-004701\n")
+    assert ended(["plan", "times.csv", "--order", "order"], tmp_path)[0] == 0
+
+
+def test_options_of_the_line_count_wherever_a_file_stands(tmp_path: pathlib.Path) -> None:
+    (tmp_path / "times.csv").write_text(TABLE)
+    (tmp_path / "week.txt").write_text("--begin 2026-11-30T06:00 --title Week\n")
+    due = ended(["plan", "times.csv", "--begin", "2026-12-01T06:00"], tmp_path)
+    for words in (["@week.txt", "times.csv", "--begin", "2026-12-01T06:00"],
+                  ["times.csv", "--begin", "2026-12-01T06:00", "@week.txt"]):
+        assert ended(["plan", *words], tmp_path) == due
+    (tmp_path / "later.txt").write_text("--begin 2026-12-01T06:00\n")
+    assert ended(["plan", "times.csv", "@week.txt", "@later.txt"], tmp_path) == due
+
+
+def test_a_rest_keeps_the_name_of_its_sheet(tmp_path: pathlib.Path) -> None:
+    """So that the options of the week serve it, also where it is a CSV."""
+    book_of(tmp_path / "times.xlsx", *ROWS, title="Zeiten", old=ROWS[:2])
+    words = ["plan", "times.xlsx", "--sheet", "Zeiten", "--rest", "rest.xlsx", "--rest", "rest.csv"]
+    due = ended(words, tmp_path)
+    assert due[0] == 0 and openpyxl.load_workbook(tmp_path / "rest.xlsx").sheetnames == ["Zeiten"]
+    assert ended(["plan", "rest.xlsx", "--sheet", "Zeiten"], tmp_path)[:2] == due[:2]
+    status, printed, got = ended(["plan", "rest.csv", "--sheet", "Zeiten"], tmp_path)
+    assert (status, printed) == due[:2]
+    assert got.startswith("pfs: rest.csv isn't a workbook, and has no sheet 'Zeiten'\n")
+
+
+def test_a_job_that_moved_at_its_place(tmp_path: pathlib.Path) -> None:
+    (tmp_path / "times.csv").write_text("job;saw\n" + "".join(f"{each};1\n" for each in "abcd"))
+    (tmp_path / "order").write_text("b\nc\na\nd\n")
+    (tmp_path / "before").write_text("c\na\nb\nd\n")
+    assert "before: moved: b (place 3 to 1)\n" in ended(
+        ["plan", "times.csv", "--order", "order", "--compare", "before"], tmp_path)[2]
+    (tmp_path / "order").write_text("d\nb\na\nc\n")
+    assert re.search(r"before: moved: .*b \(place \d to 2\)|before: moved: .*[acd] \(place \d\)", ended(
+        ["plan", "times.csv", "--order", "order", "--compare", "before"], tmp_path)[2])

@@ -65,6 +65,20 @@ lamp      30  145
     assert dated.endswith("lamp   2026-11-30 06:30  2026-11-30 08:25\n")
 
 
+@pytest.mark.parametrize(("least", "ends"), [
+    ("1", ["10:02", "06:01", "10:02"]), ("0.99", ["10:01:34.8", "06:00:59.4", "10:01:34.8"])])
+def test_people_read_minutes(folder: pathlib.Path, least: str, ends: list[str]) -> None:
+    """Where each operation takes one or more. The schedule is exact."""
+    (folder / "times.csv").write_text(f"job [min],saw\na,{least}\nb,240.59\n")
+    words = ["plan", "times.csv", "--begin", "2026-11-30T06:00", "--report", "--schedule", "plan.csv", "--order",
+             "order"]
+    (folder / "order").write_text("a\nb\n")
+    printed = ended(words, folder)[1]
+    assert f"\nend 2026-11-30 {ends[0]}\n" in printed
+    assert [line.split()[-1] for line in printed.splitlines()[-2:]] == ends[1:]
+    assert "2026-11-30 10:01:3" in (folder / "plan.csv").read_text()
+
+
 def test_a_workbook_has_the_report(folder: pathlib.Path) -> None:
     openpyxl = pytest.importorskip("openpyxl")
     assert ended(["plan", "times.csv", "--order", "order", "--schedule", "plan.xlsx"], folder)[0] == 0

@@ -1,27 +1,32 @@
 """What is left of a plan: against a simulation, and in the commands of a week."""
+import itertools
 import pathlib
 import random
+from collections.abc import Sequence
 from typing import Any
 
 import numpy as np
 import numpy.typing as npt
 import pfs
 import pytest
+from pfs.plan.plan import Limits, Plan
 from support import plainly
 from support.commands import ended
 
 Table = npt.NDArray[np.int64]
 
 
-def simulated(times: Table, starts: Table, ends: Table, at: int, down: dict[int, int]) -> Table:
-    """Continues a plan from `at` on, job by job. A machine that is down does nothing from then on until its time."""
+def simulated(times: Table, starts: Table, ends: Table, at: int, down: dict[int, int], waiting: set[int]) -> Table:
+    """Continues a plan from `at` on, job by job. A machine that is down does nothing from then on until its time, and
+    only jobs that need it wait, and those that come after the held ones."""
     new = ends.copy()
     for place, machine in np.ndindex(times.shape):
         if starts[place, machine] < at < ends[place, machine]:
             new[place, machine] += max(0, down.get(machine, 0) - at)
-        elif ends[place, machine] > at:
+        elif ends[place, machine] > at or place in waiting:
             before = new[place - 1, machine] if place else 0, new[place, machine - 1] if machine else 0
-            new[place, machine] = max(*before, at, down.get(machine, 0)) + times[place, machine]
+            until = down.get(machine, 0) if times[place, machine] or place in waiting else 0
+            new[place, machine] = max(*before, at, until) + times[place, machine]
     return new
 
 
@@ -50,7 +55,7 @@ def test_the_rest_ends_when_the_plan_does(seed: int) -> None:
         # Machines that no job needs any more may stay down.
         needed = {machine: until for machine, until in down.items()
                   if ((ends[:, machine] > at) & (times[:, machine] > 0)).any()}
-        wanted = simulated(times, starts, ends, at, needed)
+        wanted = simulated(times, starts, ends, at, needed, {int(name) for name in names[held:]})
         rows = plainly.schedule(left.times.tolist(), range(left.jobs))
         own = np.array([[end for _, end in row] for row in rows]) + at
         begun = {str(job) for job in range(jobs) if ((starts[job] < at) & (times[job] > 0)).any()}
@@ -59,15 +64,9 @@ def test_the_rest_ends_when_the_plan_does(seed: int) -> None:
         for place, name in enumerate(names):
             if name.isdigit():
                 for machine in np.flatnonzero((ends[int(name)] > at) & (times[int(name)] > 0)).tolist():
-                    assert own[place, machine] == wanted[int(name), machine] or passed(ends, at, down, place >= held), (
-                        times, at, down)
+                    assert own[place, machine] == wanted[int(name), machine], (times, at, down)
                     compared += 1
     assert compared > 2_000
-
-
-def passed(ends: Table, at: int, down: dict[int, int], is_free: bool) -> bool:
-    """A job that hasn't begun, but skips the first machines, waits for one that is down all the same."""
-    return is_free and bool(down) and bool(((ends <= at).any(axis=1) & (ends[:, -1] > at)).any())
 
 
 def test_names_and_faults_of_a_rest() -> None:
@@ -172,6 +171,58 @@ def test_machines_that_are_down(folder: pathlib.Path) -> None:
     got = ended(["plan", "times.csv", *WEEK, "--down", "saw=2026-11-30T07:00"], folder)
     assert got[0] == 0 and "\n1 (saw is down)\n" in got[1]
     assert got[2] == "from 2026-11-30 06:00 on: 0 finished, 1 held, 4 to plan\n"
+
+
+def makespan(times: list[list[int]], order: Sequence[int], free: dict[int, int]) -> int:
+    """When the last job leaves the last machine, if a machine that is free from a time on lets pass what skips it."""
+    ends = [0] * len(times[0])
+    for job in order:
+        before = 0
+        for machine, time in enumerate(times[job]):
+            before = ends[machine] = max(before, ends[machine], free.get(machine, 0) if time else 0) + time
+    return ends[-1]
+
+
+@pytest.mark.seconds(30)
+def test_jobs_that_skip_a_machine_that_is_down_dont_wait_for_it() -> None:
+    """Against the shortest of all orders, of 200 shops: none is undercut, and few are missed by a little. The bound
+    is one for all orders."""
+    longer = []
+    for seed in range(200):
+        chance = random.Random(seed)
+        times = [[chance.choice([0, *[chance.randint(1, 99)] * 2]) for _ in range(4)] for _ in range(6)]
+        free = {machine: chance.randint(60, 180) for machine in chance.sample(range(4), 1 + seed % 2)}
+        before = Plan(pfs.Instance(times, unit="min"), calendar=pfs.Calendar("2026-11-30"))
+        plan, _ = before.rest("2026-11-30", [(str(machine), f"2026-11-30T{until // 60:02}:{until % 60:02}")
+                                             for machine, until in free.items()])
+        plan.fill()
+        best = plan.solve(plan.search(), Limits(50, None, 0.0))
+        order = [int(name) for name in map(plan.shop.job_name, plan.order) if name.isdigit()]
+        shortest = min(makespan(times, each, free) for each in itertools.permutations(range(6)))
+        needed = {machine: until for machine, until in free.items() if any(row[machine] for row in times)}
+        assert sorted(order) == [*range(6)] and makespan(times, order, needed) <= best.makespan
+        assert best.bound <= shortest <= best.makespan, seed
+        longer += [best.makespan / shortest - 1] * (best.makespan > shortest)
+    assert len(longer) < 10 and sum(longer) < .2
+
+
+def test_jobs_that_come_first_pass_in_the_order_that_is_asked_for(tmp_path: pathlib.Path) -> None:
+    """Seven hours and not ten, since B and C needn't wait for the drill."""
+    (tmp_path / "s.csv").write_text("job [h];saw;drill;paint\nA;1;2;1\nB;1;0;3\nC;1;0;2\n")
+    words = ["plan", "s.csv", "--begin", "2026-11-30T06:00", "--down", "drill=2026-11-30T10:00", "--schedule", "p.csv"]
+    status, printed, got = ended(words, tmp_path)
+    assert status == 0 and printed.startswith("makespan 7 h\n") and printed.endswith("\n3 (drill is down)\n4 A\n")
+    assert got == ("s.csv: they skip what is down, and come first, so as not to wait: C, B\n"
+                   "from 2026-11-30 06:00 on: 0 finished, 3 held, 1 to plan\n")
+    assert "A,drill,2026-11-30 10:00,2026-11-30 12:00\n" in (tmp_path / "p.csv").read_text().replace(";", ",")
+    # What is to be first is, and a kept order stays.
+    printed = ended([*words, "--first", "A"], tmp_path)[1]
+    assert printed.startswith("makespan 12 h\n") and "\n1 (drill is down)\n2 A\n" in printed
+    (tmp_path / "order").write_text("B\nA\nC\n")
+    printed, got = ended([*words, "--order", "order", "--keep"], tmp_path)[1:]
+    assert printed.endswith("\n1 (drill is down)\n2 B\n3 A\n4 C\n") and "come first" not in got
+    printed = ended([*words, "--order", "order", "--keep", "--hold", "1"], tmp_path)[1]
+    assert printed.endswith("\n1 B\n2 (drill is down)\n3 A\n4 C\n")
 
 
 @pytest.mark.parametrize(("now", "begin"), [("2026-11-30T06:20", "2026-11-30 06:24"),

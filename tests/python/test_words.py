@@ -24,7 +24,7 @@ def test_each_text_is_in_the_table_and_each_of_the_table_is_said() -> None:
     page, *sources = (path.read_text("utf-8") for path in (top / "chart.html", *top.rglob("*.py")))
     said = set(re.findall(r"say\([\"']([^\"']+)[\"']\)", "".join([page, *sources])))
     said |= {" ".join(text.split()) for text in re.findall("{{=([^}]+)}}", page)}
-    said |= {*report.OPERATIONS, *report.JOBS, *report.PLACES, *report.MACHINES, *PAGE_WORDS,
+    said |= {*report.OPERATIONS, *report.MARKS, *report.JOBS, *report.PLACES, *report.MACHINES, *PAGE_WORDS,
              "units of the instance", "date and time", "date and time, in shifts only"}
     assert said == german.keys()
 

@@ -67,19 +67,40 @@ HOURS = (("job [h]", "saw", "drill"), ("table", 3.5, 0.75), ("chair", 1.5, "=50/
 
 
 def test_formulas_that_a_spreadsheet_computes(tmp_path: pathlib.Path, office: Office) -> None:
-    """Without values they are rejected, and told what to do. With values of many decimals they are rounded."""
+    """Without values they are rejected, and told what to do. Values of many decimals are rounded to the second."""
     path = book_of(tmp_path / "times.xlsx", *HOURS)
     assert fault_of(path) == (3, 3, "has a formula without a value (and 3 more): open the workbook in a spreadsheet "
                                     "and save it")
     path = office(path, "xlsx")
-    assert fault_of(path) == (3, 3, "'0.833333333' has 9 decimals, in which the time in B2 is above 1,000,000,000: "
-                                    "round it, or say how many decimals to keep (`decimals`)")
+    shop = pfs.read_csv(path)
+    assert (shop.times.tolist(), shop.decimals) == ([[35000, 7500], [15000, 8333], [11667, 12500]], 4)
     shop = pfs.read_csv(path, decimals=2)
     assert (shop.times.tolist(), shop.decimals) == ([[350, 75], [150, 83], [117, 125]], 2)
-    status, printed, got = ended(["plan", "times.xlsx"], path.parent)
-    assert (status, printed) == (2, "") and got.endswith("round it, or say how many decimals to keep (--decimals)\n")
+    status, _, got = ended(["plan", "times.xlsx"], path.parent)
+    assert (status, got) == (0, "times.xlsx: 2 times of formulas rounded to 4 decimals, by 3.3e-05 at most (C3: "
+                                "0.833333333)\n")
     status, printed, got = ended(["plan", "times.xlsx", "--decimals", "2"], path.parent)
     assert (status, got) == (0, "times.xlsx: 2 times rounded to 2 decimals, by 0.0033 at most (C3: 0.833333333)\n")
+
+
+@pytest.mark.parametrize(("unit", "words", "times", "decimals"), [
+    ("h", {}, [8333, 25000], 4), ("d", {}, [83333, 250_000], 5), ("min", {}, [83, 250], 2), ("s", {}, [83, 250], 2),
+    ("h", {"decimals": 3}, [833, 2500], 3), ("pieces", {}, [833_333_333, 0], 9),
+    ("h", {"quantity": "pcs"}, [833_333_333, 0], 9)])
+def test_what_a_formula_computed_is_rounded_to_the_second(
+        tmp_path: pathlib.Path, unit: str, words: dict[str, Any], times: list[int], decimals: int) -> None:
+    """In units of time, and not the time of a piece. A number that was typed stays exact, and so does a short one."""
+    last = 2.5 if times[1] else 0
+    path = book_of(tmp_path / "typed.xlsx", (f"job [{unit}]", "pcs", "saw"), ("a", 1, 0.8333333333), ("b", 1, last))
+    words = {"machines": ["saw"], **words}
+    with zipfile.ZipFile(path) as book, zipfile.ZipFile(tmp_path / "times.xlsx", "w") as other:
+        for name in book.namelist():
+            other.writestr(name, re.sub(rb"<v>(0\.8333333333|2\.5)</v>", rb"<f>50/60</f><v>\1</v>", book.read(name)))
+    shop = pfs.read_csv(tmp_path / "times.xlsx", **words)
+    assert (shop.times[:, 0].tolist(), shop.decimals) == (times, decimals)
+    typed = book_of(tmp_path / "typed.xlsx", (f"job [{unit}]", "pcs", "saw"), ("a", 1, 0.8333333333), ("b", 1, 0))
+    if "decimals" not in words:
+        assert pfs.read_csv(typed, **words).times.tolist() == [[833_333_333], [0]]
 
 
 @pytest.mark.parametrize(("decimal", "cell", "times"), [
@@ -205,7 +226,7 @@ max="5"/><col max="1" hidden="1"/><col min="7" hidden="1"/></cols><row hidden="1
 def test_what_openpyxl_does_not_say_of_a_sheet() -> None:
     rows, columns = _workbooks.hidden_in(SHEET)
     assert rows - {0} == {4} and columns == {1, 2, 3, *range(9, 16_385)}
-    assert [*_workbooks.formulas_without_values(SHEET)] == ["B1", "A1"]
+    assert [*_workbooks.formulas_in(SHEET)] == [("B1", None), ("A1", None), ("C1", "0"), ("D1", "")]
 
 
 def test_rows_after_the_last_one_of_a_table_are_not_read(tmp_path: pathlib.Path,

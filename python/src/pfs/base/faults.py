@@ -1,6 +1,8 @@
 """Exceptions for invalid files."""
 from __future__ import annotations
 
+from collections.abc import Iterable
+
 # The name and the text of each fault by its number. `{}` is the place.
 INSTANCE_FAULTS = {
     20: ("no block", "no block, found {}"),
@@ -116,6 +118,12 @@ class TableFault(Fault):
 
     def __str__(self) -> str:
         return "\n".join(self.messages())
+
+
+def raise_all(faults: Iterable[TableFault]) -> None:
+    """Raise these faults of a file as one, in the order of their cells, if there are any."""
+    if first := sorted(faults, key=lambda fault: (fault.line, fault.column)):
+        raise TableFault(first[0].path, first[0].line, first[0].column, first[0].text, first[0].head, tuple(first[1:]))
 
 
 def cell_name(line: int, column: int) -> str:

@@ -6,7 +6,7 @@ import os
 from collections.abc import Callable
 from typing import TypeAlias
 
-from pfs.base.faults import TableFault
+from pfs.base.faults import TableFault, raise_all
 
 # What returns a text in a language.
 Say: TypeAlias = "Callable[[str], str]"
@@ -48,7 +48,5 @@ def texts_in(content: bytes, path: str, known: dict[str, str] | None) -> dict[st
             faults.append(TableFault(path, number, 0, fault))
         else:
             texts[english] = text
-    if faults:
-        first, *rest = faults
-        raise TableFault(path, first.line, 0, first.text, "", tuple(rest))
+    raise_all(faults)
     return texts

@@ -51,7 +51,8 @@ class Workbook:
         self.cells = MOST_CELLS
         # The texts that look like numbers with a separator, in the last sheet that was read.
         self.texts: set[tuple[int, int]] = set()
-        # How many hidden rows and columns the last sheet that was read has.
+        # Its cells that formulas computed with many digits, and how many hidden rows and columns it has.
+        self.computed: set[tuple[int, int]] = set()
         self.hidden = [0, 0]
         with self.faults():
             with zipfile.ZipFile(io.BytesIO(content)) as archive:
@@ -82,11 +83,14 @@ class Workbook:
         with self.faults():
             sheet = self.book[name]
             content = self.book._archive.read(sheet._worksheet_path)
-            empty = [*formulas_without_values(content)]
+            place = self.openpyxl.utils.cell.coordinate_to_tuple
+            formulas = [(cell, value) for cell, value in formulas_in(content) if value is None or len(value) > 9]
+            self.computed = {place(cell) for cell, value in formulas if value}
+            empty = [cell for cell, value in formulas if value is None]
             text = self.text_of_rows(sheet, most_rows, *hidden_in(content))
         if empty:
             path = f"{self.path}, sheet {name}" if len(self.names) > 1 else self.path
-            line, column = self.openpyxl.utils.cell.coordinate_to_tuple(empty[0])
+            line, column = place(empty[0])
             more = f" (and {len(empty) - 1:,} more)" if len(empty) > 1 else ""
             raise TableFault(path, line, column, f"has a formula without a value{more}: open the workbook in a "
                                                  "spreadsheet and save it")
@@ -147,13 +151,13 @@ def check_parts(archive: zipfile.ZipFile) -> None:
                 raise ValueError("it has too many cells")
 
 
-def formulas_without_values(sheet: bytes) -> Iterator[str]:
-    """Return the names of the cells whose formula has no stored value, not even an empty text. openpyxl reads them as
-    empty ones."""
+def formulas_in(sheet: bytes) -> Iterator[tuple[str, str | None]]:
+    """Return the names of the cells with formulas, and their stored values; None without one, not even an empty text,
+    which openpyxl reads as an empty cell."""
     for _, row in ElementTree.iterparse(io.BytesIO(sheet)) if FORMULA.search(sheet) else ():
         if row.tag.endswith("}row"):
-            yield from (cell.get("r", "A1") for cell in row if cell.find("{*}f") is not None
-                        and not cell.findtext("{*}v") and cell.get("t") != "str")
+            yield from ((cell.get("r", "A1"), "" if cell.get("t") == "str" else cell.findtext("{*}v") or None)
+                        for cell in row if cell.find("{*}f") is not None)
             row.clear()
 
 

@@ -15,7 +15,7 @@ import numpy as np
 
 from pfs.base.atomic import atomic_write
 from pfs.base.cells import csv_writer, text_cell, text_in_cell
-from pfs.base.faults import TableFault, cell_name
+from pfs.base.faults import TableFault, cell_name, raise_all
 from pfs.base.units import CLOCK, amount, seconds_in
 from pfs.base.workbooks import OPTIONS_SHEET, Workbook, cell_of, write_workbook
 from pfs.binding import library as c
@@ -36,6 +36,8 @@ NUMBER = re.compile(r"([0-9]{1,20})(?:([.,])([0-9]{1,20}))?\Z")
 HOURS = re.compile(r"([0-9]{1,6}):([0-5][0-9])(?::00)?\Z")
 ZERO = re.compile(r"0(?:[.,]0+)?\Z")
 CLOCKS = (CLOCK, "hh:mm")
+# The decimals of an hour and of a day that are less than a second; of minutes and seconds they are 2.
+SECOND_IN = {3_600: 4, 86_400: 5}
 MISSING = "the time is missing: write 0 where a job skips a machine (it still waits there for its turn)"
 ONE_UNIT = "use one unit"
 EMPTY_ROW = "the row has no times: leave it out if it is no job, or write 0 where the job skips a machine"
@@ -111,8 +113,9 @@ class Table(NamedTuple):
     note: str
     # What was rounded, or an empty text.
     rounded: str
-    # The names of the columns that were left out.
+    # The names of the columns that were left out, and of the sheet.
     left_out: tuple[str, ...] = ()
+    sheet: str = "times"
 
 
 class Cell(NamedTuple):
@@ -137,6 +140,8 @@ class Rows:
         self.delimiter = delimiter
         # The cells of a workbook that are texts, and look like numbers with a separator; None in another table.
         self.texts = texts
+        # The cells of a workbook that formulas computed with many digits.
+        self.computed: set[tuple[int, int]] = set()
         # Whether the machines were named.
         self.is_chosen = is_chosen
         self.faults = faults
@@ -201,9 +206,7 @@ class Rows:
             if column not in others or NO_MACHINE in cause:
                 more = f" (and {counted(count - 1, 'more cell')} of the column)" if count > 1 else ""
                 faults.append(TableFault(self.path, fault.line, column, fault.text + more, fault.head))
-        if faults:
-            first, *rest = sorted(faults, key=lambda fault: (fault.line, fault.column))
-            raise TableFault(self.path, first.line, first.column, first.text, first.head, tuple(rest))
+        raise_all(faults)
 
 
 def read_csv(source: str | os.PathLike[str], unit: str = "", *, decimal: str | None = None,
@@ -236,10 +239,12 @@ def read_csv(source: str | os.PathLike[str], unit: str = "", *, decimal: str | N
     sheet : str, optional
         The sheet of a workbook. By default it is the one that the workbook opens with, and a warning names it if there
         are others. The sheet ``pfs`` has options of `pfs-plan`, and isn't counted. Hidden rows and columns are read
-        too, and a warning says how many there are.
+        too, and a warning says how many there are. Of another file, a warning says that it has no sheets.
     decimals : int, optional
-        Round times with more decimals than this, 0 to 9, to the nearest one, and halves up. By default no time is
-        rounded, and one with more than 9 decimals is rejected. Numbers of workbooks have 9 decimals at most.
+        Round times with more decimals than this, 0 to 9, to the nearest one, and halves up. By default only what
+        formulas of a workbook computed is rounded, such as ``=50/60``: to less than a second, if the times have a unit
+        of time and aren't those of a piece. Another time with more than 9 decimals is rejected. Numbers of workbooks
+        have 9 decimals at most.
     quantity : str, optional
         The name of the column with the pieces of each job: the times of the table are then those of a piece. A table
         that says that they are, as in ``saw [min/pc]``, is rejected without it.
@@ -293,17 +298,20 @@ def table_of(source: str | os.PathLike[str], unit: str, decimal: str | None, all
              quantity: str | None = None, setup: Iterable[str] = (), jobs: str | None = None) -> Table:
     """Read a table. The parameters are those of `read_csv`."""
     path = os.fspath(source)
-    content, faults, note, texts = content_of(path, "table"), list[TableFault](), "", None
+    content, faults, book = content_of(path, "table"), list[TableFault](), None
     if content.startswith(ARCHIVE):
-        text, note, texts = sheet_of(content, path, sheet)
+        book = Workbook(content, path)
+        own = book.first if sheet is None else sheet
+        text, note = sheet_of(book, own, sheet is not None)
     else:
-        text = text_of(content, path, faults)
-        if sheet is not None:
-            raise ValueError(f"{path} isn't a workbook (.xlsx), and has no sheet {sheet!r}")
+        own, text = "times", text_of(content, path, faults)
+        note = f"{path} isn't a workbook, and has no sheet {sheet!r}" if sheet is not None else ""
     delimiter = delimiter_of(text)
-    rows = Rows(path, lambda: records(text, path, delimiter), delimiter, texts, bool(machines), faults)
+    rows = Rows(path, lambda: records(text, path, delimiter), delimiter, None, bool(machines), faults)
+    if book is not None:
+        rows.texts, rows.computed = book.texts, book.computed
     shop, rounded = shop_in(rows, unit, decimal, allow_totals, machines, most_decimals, quantity, setup, jobs)
-    return Table(shop, delimiter, content.startswith(MARKS), note, rounded, tuple(rows.left_out))
+    return Table(shop, delimiter, content.startswith(MARKS), note, rounded, tuple(rows.left_out), own)
 
 
 def table_in(records: Records, path: str, delimiter: str, unit: str, decimal: str | None, allow_totals: bool,
@@ -342,22 +350,19 @@ def shop_in(rows: Rows, unit: str, decimal: str | None, allow_totals: bool, mach
     return shop, sign.rounded()
 
 
-def sheet_of(content: bytes, path: str, sheet: str | None) -> tuple[str, str, set[tuple[int, int]]]:
-    """Return a sheet of a workbook as CSV, of whose rows one more than a table may have is read, and which of its texts
-    look like numbers. By default it is the one with which the workbook opens, and the second text says so if there are
-    others. It also says if rows or columns are hidden."""
-    book = Workbook(content, path)
-    own = book.first if sheet is None else sheet
+def sheet_of(book: Workbook, own: str, is_named: bool) -> tuple[str, str]:
+    """Return a sheet of a workbook as CSV, of whose rows one more than a table may have is read. The second text says
+    which one it is if it wasn't named and there are others, and if rows or columns are hidden."""
     if own not in book.names:
-        raise ValueError(f"{path} has no sheet {own!r}, but {', '.join(map(repr, book.names))}")
+        raise ValueError(f"{book.path} has no sheet {own!r}, but {', '.join(map(repr, book.names))}")
     text = book.csv_of(own, MOST_ROWS + 2)
     others = [repr(name) for name in book.names if name != own and name.casefold() != OPTIONS_SHEET]
-    note = f"the sheet {own!r} is read, and not {', '.join(others)} (`sheet`)" if others and sheet is None else ""
+    note = f"the sheet {own!r} is read, and not {', '.join(others)} (`sheet`)" if others and not is_named else ""
     hidden = " and ".join(counted(number, f"hidden {what}") for number, what in zip(book.hidden, ("row", "column"))
                           if number)
     if hidden:
         note += f"{'; ' if note else ''}{hidden} {'is' if sum(book.hidden) == 1 else 'are'} read too"
-    return text, note and f"{path}: {note}", book.texts
+    return text, note and f"{book.path}: {note}"
 
 
 def text_of(content: bytes, path: str, faults: list[TableFault] | None = None) -> str:
@@ -705,6 +710,8 @@ def times_of(table: Rows, sign: DecimalSign, unit: str) -> tuple[Order, int, str
         times, decimals, unit, note = table.read_times(partial(minutes_of, table, why)), 0, CLOCK, " minutes"
     else:
         # In billionths. What is too long for them is too long for a time.
+        seconds = seconds_in(unit)
+        sign.second = None if seconds is None or table.quantity else SECOND_IN.get(seconds, 2)
         times, decimals, note = table.read_times(sign.billionths_of), sign.decimals, ""
         times //= 10**(9 - decimals)
     times = of_all_pieces(table, times)
@@ -771,6 +778,8 @@ class DecimalSign:
         self.sign = given or ("." if table.delimiter == "," else None)
         # The time that shows it.
         self.first: Cell | None = None
+        # With how many decimals a formula's time is about a second, if it is rounded.
+        self.second: int | None = None
         # The most decimals of a time so far, and the first time with so many.
         self.decimals = 0
         self.longest: Cell | None = None
@@ -797,8 +806,9 @@ class DecimalSign:
         if match is None or match[2] not in (None, sign):
             raise self.table.fault(cell, f"{cell.text!r} isn't a time{self.hint_for(cell.text)}")
         whole, part = match[1], (match[3] or "").rstrip("0")
-        if self.most is not None and len(part) > self.most:
-            whole, part = self.round(cell, int(whole + part.ljust(20, "0")), self.most)
+        most = self.second if self.most is None and cell[:2] in self.table.computed else self.most
+        if most is not None and len(part) > most:
+            whole, part = self.round(cell, int(whole + part.ljust(20, "0")), most)
         if len(part) > 9:
             raise self.table.fault(cell, f"{cell.text!r} has more than 9 decimals: {ROUND_IT}")
         if len(part) > self.decimals:
@@ -820,7 +830,9 @@ class DecimalSign:
         if self.worst is None:
             return ""
         most = f"{self.change / 10**20:.2g}"
-        return (f"{counted(self.changed, 'time')} rounded to {counted(self.most or 0, 'decimal')}, by {most} at most "
+        of = "" if self.most is not None else " of formulas"
+        decimals = self.most if self.most is not None else self.second or 0
+        return (f"{counted(self.changed, 'time')}{of} rounded to {counted(decimals, 'decimal')}, by {most} at most "
                 f"({self.worst.name}: {self.worst.text})")
 
     def hint_for(self, text: str) -> str:
@@ -856,13 +868,13 @@ def text_rows(shop: Instance) -> Iterator[list[str]]:
         yield [shop.job_name(job), *(amount(time, shop.decimals, shop.unit) for time in row)]
 
 
-def write_table(path: str, shop: Instance, delimiter: str, mark: bool) -> None:
-    """Write a table of times that `table_of` reads as this instance, as a workbook or as CSV."""
+def write_table(path: str, shop: Instance, delimiter: str, mark: bool, sheet: str = "times") -> None:
+    """Write a table of times that `table_of` reads as this instance, as a workbook with this sheet or as CSV."""
     head, *texts = text_rows(shop)
     if path.lower().endswith(".xlsx"):
         rows = [[shop.job_name(job), *(cell_of(time, shop.decimals, shop.unit) for time in row)]
                 for job, row in enumerate(shop.times.tolist())]
-        write_workbook(path, [("times", [head, *rows])])
+        write_workbook(path, [(sheet, [head, *rows])])
         return
     lines: list[str] = []
     writer = csv_writer(lines, [*head, *(name for name, *_ in texts)], delimiter)

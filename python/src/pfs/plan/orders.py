@@ -6,18 +6,18 @@ import csv
 import os
 import re
 from bisect import bisect_left
-from collections.abc import Collection, Iterable, Iterator, Sequence
+from collections.abc import Collection, Iterable, Iterator, Mapping, Sequence
 from itertools import chain, islice, takewhile
 from typing import NamedTuple, TypeVar
 
 from pfs.base.cells import text_cell, text_in_cell
-from pfs.base.faults import TableFault
+from pfs.base.faults import TableFault, raise_all
 from pfs.base.languages import words_of
 from pfs.base.names import shown
 from pfs.base.order_text import numbers_in, words_in
 from pfs.files.instances import content_of
 from pfs.files.tables import SAYS_JOB, delimiter_of, is_above_names, lines_of, records, text_of
-from pfs.schedules.report import OPERATIONS
+from pfs.schedules.report import MARKS, OPERATIONS
 from pfs.shops.instance import Instance
 from pfs.shops.search import by_total, insert_after
 
@@ -28,17 +28,22 @@ AFTER = (re.compile("optimal"), re.compile(r"end [0-9]{4}-[0-9]{2}-[0-9]{2} [0-9
 AFTER_ORDER = "---"
 PLACED = re.compile(r"[0-9]+(?:[.):;,]\s*|\s+)(.+)")
 
+# The most jobs whose names are compared with others that nearly match.
+MOST_COMPARED = 500
+
 # A job, by its number or by its name.
 Job = TypeVar("Job", int, str)
 
 
 class FoundOrder(NamedTuple):
-    """An order that was read: the jobs that the table has, the names that it lacks, with how many of these jobs are
-    before each, and the rows of operations with their lines, if it is a schedule."""
+    """An order that was read: the jobs that the table has, and the names that it lacks, with how many of these jobs are
+    before each. Of a schedule also the rows of operations with their lines, and by their names the columns
+    that say what has happened (`MARKS`), counted from 1."""
 
     jobs: list[int]
     gone: dict[str, int]
     rows: Sequence[tuple[int, list[str]]] = ()
+    columns: Mapping[str, int] = {}
 
 
 def order_in(path: str | os.PathLike[str], shop: Instance, language: str = "en") -> FoundOrder:
@@ -53,31 +58,72 @@ def order_in(path: str | os.PathLike[str], shop: Instance, language: str = "en")
     # The line of each job of the table, and of each other name.
     seen: dict[int | str, int] = {}
     text = text_of(content, path)
-    rows = operations_in(text, path, language)
-    for line, name in named_jobs(text, path, numbers) if rows is None else firsts_of(rows):
+    rows, columns = operations_in(text, path, language)
+    for line, name in firsts_of(rows) if rows else named_jobs(text, path, numbers):
         job = numbers.get(name, name)
         if job in seen:
             raise TableFault(path, line, 0, f"the job {name!r} is in line {seen[job]} too")
         seen[job] = line
-    found = FoundOrder([], {}, rows or ())
+    found = FoundOrder([], {}, rows, columns)
     for job in seen:
         if isinstance(job, int):
             found.jobs.append(job)
         else:
             found.gone[job] = len(found.jobs)
+    near = near_names(found, shop)
+    if len(near) > len(found.jobs):
+        name, own = next(iter(near.items()))
+        more = f" (and {len(near) - 1:,} more nearly match)" if len(near) > 1 else ""
+        raise TableFault(path, seen[name], 0, f"{name!r} isn't a job of the table: write {own!r} if it is that{more}")
     if not found.jobs:
         raise TableFault(path, 1, 0, "no job of the table is named: write the names of the jobs, one in a line")
     return found
 
 
-def stated_end(path: str | os.PathLike[str]) -> str:
+def near_names(found: FoundOrder, shop: Instance) -> dict[str, str]:
+    """The jobs without a place that nearly have the names that the table lacks: in other capitals, with other signs
+    between letters, without the zeros before a number, or with more words."""
+    placed, forms, near = set(found.jobs), dict[str, str](), dict[str, str]()
+    for name in (shop.job_name(job) for job in range(shop.jobs) if job not in placed) if found.gone else ():
+        forms[plain_form(name)] = name
+    for name in found.gone:
+        own = plain_form(name)
+        like = [own] if own in forms else [] if len(forms) > MOST_COMPARED else [
+            form for form in forms if is_in(own, form) or is_in(form, own)]
+        if len(like) == 1:
+            near[name] = forms[like[0]]
+    return near
+
+
+def plain_form(name: str) -> str:
+    """The letters and numbers of a name.
+
+    >>> plain_form("FA-004727  (eilt)")
+    'fa4727eilt'
+    """
+    return re.sub(r"(?<![0-9])0+(?=[0-9])", "", re.sub(r"[\W_]+", "", name.casefold()))
+
+
+def is_in(part: str, form: str) -> bool:
+    """Whether a form has a shorter one with three letters or more, and no part of a number."""
+    before, after = ("(?<![0-9])" if part[:1].isdigit() else ""), ("(?![0-9])" if part[-1:].isdigit() else "")
+    return len(part) > 2 and part in form and re.search(f"{before}{part}{after}", form) is not None
+
+
+def stated_end(path: str | os.PathLike[str], found: FoundOrder) -> str:
     """What a plan or a schedule with dates says of its own end, or an empty text."""
     text = text_of(content_of(os.fspath(path)), os.fspath(path))
     lines = [line.strip() for line in islice(lines_of(text), 4)]
     if len(lines) > 1 and all(HEAD.fullmatch(line) for line in lines[:2]):
         return ", ".join([lines[0], *(line for line in lines if AFTER[1].fullmatch(line))])
-    dates = re.findall(r'[;,\t]"?([0-9]{4}-[0-9]{2}-[0-9]{2} [0-9:.]+(?:,[0-9]+)?)"?\r?$', text, re.MULTILINE)
+    dates = [iso_of(row[3]) for _, row in found.rows if len(row) > 3 and "-" in iso_of(row[3])]
     return f"end {max(dates).removesuffix(':00') if len(max(dates)) > 16 else max(dates)}" if dates else ""
+
+
+def iso_of(text: str) -> str:
+    """A date and time as it was written, also if a spreadsheet in German saved it."""
+    return re.sub(r"([0-9]{1,2})\.([0-9]{1,2})\.([0-9]{4})\b",
+                  lambda date: f"{date[3]}-{date[2]:0>2}-{date[1]:0>2}", text)
 
 
 def numbers_by_name(shop: Instance) -> dict[str, int]:
@@ -130,12 +176,21 @@ def rows_of_table(text: str, path: str, delimiter: str, numbers: Collection[str]
     return rows[1:] if firsts > seconds or (firsts == seconds and not SAYS_JOB.match(head[1])) else []
 
 
-def operations_in(text: str, path: str, language: str) -> list[tuple[int, list[str]]] | None:
-    """The rows of a schedule with their lines, which has a row of heads; None if it isn't one."""
-    heads = {tuple(map(words_of(each), OPERATIONS)) for each in ("en", "de", language)}
-    first = next(filled_lines(text), (0, ""))[1]
-    separator = next((sign for sign in ";,\t" for row in csv.reader([first], delimiter=sign) if (*row,) in heads), None)
-    return None if separator is None else [*islice(records(text, path, separator), 1, None)]
+def operations_in(text: str, path: str, language: str) -> tuple[list[tuple[int, list[str]]], dict[str, int]]:
+    """The rows of a schedule with their lines, and the columns that say what has happened; none if it isn't one."""
+    says = [words_of(each) for each in ("en", "de", language)]
+    marks, count = {say(name).casefold(): name for say in says for name in MARKS}, len(OPERATIONS)
+    line, first = next(filled_lines(text), (0, ""))
+    for separator in ";,\t":
+        for row in csv.reader([first], delimiter=separator):
+            if any([*map(say, OPERATIONS)] == row[:count] for say in says):
+                others = [(column, cell) for column, cell in enumerate(map(str.strip, row[count:]), count + 1) if cell]
+                raise_all(TableFault(path, line, column, f"{cell!r} is no column of a schedule: those that say what "
+                                     f"has happened are {' and '.join(MARKS)}") for column, cell in others
+                          if cell.casefold() not in marks)
+                columns = {marks[cell.casefold()]: column for column, cell in others}
+                return [*islice(records(text, path, separator), 1, None)], columns
+    return [], {}
 
 
 def filled_lines(text: str) -> Iterator[tuple[int, str]]:

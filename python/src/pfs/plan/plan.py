@@ -2,7 +2,9 @@
 them of options, and the page for planners of requests."""
 from __future__ import annotations
 
-from collections.abc import Callable, Iterable, Sequence
+import contextlib
+from collections.abc import Callable, Iterable, Iterator, Sequence
+from datetime import datetime, timedelta
 from functools import cached_property
 from typing import Any, NamedTuple
 
@@ -10,11 +12,13 @@ import numpy as np
 
 from pfs.base.names import shown
 from pfs.base.units import CLOCK, amount
-from pfs.plan.dates import check_past, dates_in, with_finished
+from pfs.plan.dates import begun_before, check_past, dates_in, ends_of, is_of_another, marks_in, with_finished
+from pfs.plan.floor import Floor
 from pfs.plan.orders import AFTER_ORDER, FoundOrder, filled
-from pfs.schedules.calendar import Calendar, Clock, begin_of, needed, text_of
+from pfs.schedules.calendar import MINUTE, Calendar, Clock, begin_of, needed, text_of
 from pfs.schedules.report import JOBS, Report, rows_of, text_table
-from pfs.schedules.rest import begun, rest_of, spans_of
+from pfs.plan.passing import arranged
+from pfs.schedules.rest import begun, left_of, shop_of
 from pfs.schedules.schedule import Schedule
 from pfs.shops.instance import Instance, digest_of
 from pfs.shops.proof import EARLY, is_small, solve_and_prove
@@ -38,7 +42,11 @@ class Plan:
     def __init__(self, shop: Instance, found: FoundOrder = FoundOrder([], {}), held: int = 0,
                  calendar: Calendar | None = None, language: str = "en") -> None:
         self.shop, self.calendar, self.language, self.least = shop, calendar, language, 0
-        self.order, self.gone, self.rows = found
+        # What is to be said of the plan before which this is what was left, perhaps with names; when its jobs were to
+        # end, and when those ended that are finished.
+        self.notes = list[tuple[str, Sequence[str] | None]]()
+        self.planned, self.ended = dict[str, datetime](), dict[str, datetime]()
+        self.order, self.gone, self.rows, self.columns = found
         self.held = self.order[:held]
 
     @cached_property
@@ -114,12 +122,21 @@ class Plan:
         """The makespan, and when it is finished; not if there are no dates, or the calendar ends before."""
         found = [f"makespan {self.span(self.best.makespan)}"]
         if self.clock is not None:
-            try:
-                end = self.clock.span(0, self.best.makespan)[1]
-            except ValueError:
-                return found
-            found.append(f"end {text_of(end, self.clock.digits(self.schedule.starts, self.schedule.ends))}")
+            with contextlib.suppress(ValueError):
+                found.append(f"end {self.moment(self.clock.span(0, self.best.makespan)[1])}")
         return found
+
+    @cached_property
+    def digits(self) -> int:
+        """How many decimals seconds have for people; -1 without seconds, where all that takes time takes a minute."""
+        assert self.clock is not None
+        times = self.shop.times[self.shop.times > 0]
+        is_long = times.size > 0 and self.clock.worked(int(times.min())) >= MINUTE
+        return -1 if is_long else self.clock.digits(self.schedule.starts, self.schedule.ends)
+
+    def moment(self, moment: datetime) -> str:
+        """A date and time for people, to the nearest minute if that is enough."""
+        return text_of(moment + timedelta(seconds=30 if self.digits < 0 else 0), self.digits)
 
     def machines(self) -> list[tuple[Any, ...]]:
         """The rows of a table of the machines, with its heads."""
@@ -127,8 +144,9 @@ class Plan:
 
     def jobs(self) -> list[list[str]]:
         """Each job, in their order, with its start and its end."""
-        span = self.schedule._texts(self.calendar)
-        return [[each.name, *span(each.start, each.end)] for each in self.report.jobs]
+        clock = self.clock
+        return [[each.name, *([self.amount(each.start), self.amount(each.end)] if clock is None else
+                              map(self.moment, clock.span(each.start, each.end)))] for each in self.report.jobs]
 
     def text(self, is_reported: bool = False) -> str:
         """What `pfs-plan` prints, perhaps with a report."""
@@ -140,7 +158,18 @@ class Plan:
             jobs = [[*JOBS], *([*map(shown, row)] for row in self.jobs())]
             lines += [AFTER_ORDER, f"{text_table(machines)}\nbottleneck {shown(self.report.bottleneck)}\n",
                       text_table(jobs).rstrip("\n")]
+            if self.planned:
+                rows = [[shown(name), *map(self.moment, ends)] for name, *ends in self.compared()]
+                lines += ["", text_table([["job", "planned end", "end"], *rows]).rstrip("\n")]
         return "\n".join(lines) + "\n"
+
+    def compared(self) -> Iterator[tuple[str, datetime, datetime]]:
+        """When each job of the schedule before was to end, and when it ended or ends now."""
+        assert self.clock is not None
+        later = {each.name: self.clock.span(each.start, each.end)[1] for each in self.report.jobs}
+        for name, planned in self.planned.items():
+            if name in self.ended or name in later:
+                yield name, planned, self.ended.get(name) or later[name]
 
     # What it writes
 
@@ -161,34 +190,43 @@ class Plan:
 
     # What is left of it
 
-    def rest(self, moment: str, down: Iterable[tuple[str, str]], hold: int = 0,
-             path: str | None = None) -> tuple[Plan, tuple[str, ...]]:
+    def rest(self, moment: str, down: Iterable[tuple[str, str]], hold: int = 0, path: str | None = None,
+             first: Iterable[int] = (), is_kept: bool = False) -> tuple[Plan, tuple[str, ...]]:
         """The plan of what is left at a moment, and the names of the jobs that are finished. Machines are down until
         these moments. The jobs that have begun are held, and the first ones of this order; jobs without a place come
-        last. The order is in a file, if there is a path."""
+        last. The order is in a file, if there is a path. Jobs may pass a machine that is down after those that are to
+        be first, unless the order is kept."""
         clock = self.clock or Clock(needed(self.calendar, "`now`"), self.shop)
         calendar, now = clock.calendar, begin_of(moment)
         if now < calendar.begin:
             raise ValueError(f"`now`: {now} is before `begin`")
-        at = clock.time_at(now)
-        found = FoundOrder(self.order, self.gone, self.rows)
-        dates = dates_in(self.shop, found, path or "")
-        shop, found = with_finished(self.shop, found, dates, clock, now)
-        check_gone(shop, found, at, path)
+        file, at, found = path or "", clock.time_at(now), FoundOrder(self.order, self.gone, self.rows, self.columns)
+        dates, marks = dates_in(self.shop, found, file), marks_in(self.shop, found, now, file)
+        shop, before = begun_before(self.shop, dates, clock)
+        is_other = is_of_another(shop, found, file)
+        shop, found = with_finished(shop, found, dates, marks, clock, now)
+        floor = Floor(shop, found.jobs, marks, clock, now, self.columns, file)
+        check_gone(shop, found, floor, path)
         if dates:
-            check_past(shop, found.jobs, dates, clock, now, path or "")
+            check_past(shop, found.jobs, dates, clock, now, file)
         new = [job for job in range(self.shop.jobs) if job not in set(self.order)]
-        left, held, done = rest_of(shop, found.jobs, at, down_until(down, clock, shop, at), new)
-        count = left.jobs - len(new)
-        # Of the first jobs of the order those that are finished are gone, and machines that are down are among them.
-        held = max(held, min(hold, len(self.order)) + count - len(self.order))
+        left = left_of(shop, found.jobs, floor.starts, floor.ends, at, down_until(down, clock, shop, at), new)
+        # Of the first jobs of the order those that are finished are gone.
+        held = max(left.held, min(hold, len(self.order)) + len(left.rows) - len(new) - len(self.order))
+        rows, held, passing = arranged(shop, left._replace(held=held), [*map(shop.job_name, first)], is_kept)
+        unplaced = {*map(shop.job_name, new)} - {row.name for row in rows[:held]}
+        order = [job for job, row in enumerate(rows) if row.name not in unplaced]
         later = calendar._begun_at(calendar.start(clock.worked(at)))
-        return Plan(left, FoundOrder([*range(count)], found.gone), held, later, self.language), done
+        plan = Plan(shop_of(shop, rows), FoundOrder(order, found.gone), held, later, self.language)
+        plan.planned, plan.ended = ends_of(dates), floor.ended(left.done)
+        plan.notes = [("has all times of jobs that had begun before; what was left then is planned", before),
+                      (is_other, None), ("they skip what is down, and come first, so as not to wait", passing)]
+        return plan, left.done
 
 
-def check_gone(shop: Instance, found: FoundOrder, at: int, path: str | None) -> None:
+def check_gone(shop: Instance, found: FoundOrder, floor: Floor, path: str | None) -> None:
     """A job that the table lacks has delayed those after it, if one of them has begun."""
-    places = np.flatnonzero(begun(*spans_of(shop, found.jobs), at))
+    places = np.flatnonzero(begun(floor.starts, floor.ends, floor.at))
     last = int(places.max(initial=-1))
     gone = next((name for name, before in found.gone.items() if before <= last), None)
     if gone is not None:

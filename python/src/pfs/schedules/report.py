@@ -70,6 +70,8 @@ def report_of(schedule: Schedule) -> Report:
 
 # The heads of tables.
 OPERATIONS, JOBS, PLACES = ("job", "machine", "start", "end"), ("job", "start", "end"), ("place", "job", "start", "end")
+# More columns of a schedule, in which people say what has happened.
+MARKS = ("begun", "ended")
 MACHINES = ("machine", "work", "utilisation %", "idle before", "idle between", "idle after", "critical %")
 
 

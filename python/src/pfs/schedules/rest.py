@@ -34,9 +34,8 @@ class Rest(NamedTuple):
 
 
 class Row(NamedTuple):
-    """A job with its place in the schedule, and its times that are left. A machine that is down has no place."""
+    """A job, and its times that are left."""
 
-    place: int | None
     name: str
     left: Order
 
@@ -53,47 +52,71 @@ def begun(starts: Order, ends: Order, at: int) -> Order:
     return result
 
 
-def rest_of(shop: Instance, order: Sequence[int], at: int, down: Mapping[int, int],
-            new: Sequence[int] = ()) -> Rest:
-    """Return what is left of a sequence at a time, and after it the jobs `new`. `down` says until when machines are
-    down from then on.
+class Left(NamedTuple):
+    """The jobs that are left at a time, of which the first `held` are held, and the names of those that are finished.
+    `free` says in how much time machines are free that are down, and on which no job is."""
 
-    Each operation starts as early as it can, so one that starts after `at` waits for one that ends after `at`, and the
-    times that are left have the ends of the schedule less `at`."""
-    starts, ends = spans_of(shop, order)
+    rows: list[Row]
+    held: int
+    done: tuple[str, ...]
+    free: dict[int, int]
+
+
+def rest_of(shop: Instance, order: Sequence[int], at: int, down: Mapping[int, int]) -> Rest:
+    """Return what is left of a sequence at a time. `down` says until when machines are down from then on."""
+    left = left_of(shop, order, *spans_of(shop, order), at, down)
+    rows, held = with_pauses(shop, left.rows, left.held, left.free)
+    return Rest(shop_of(shop, rows), held, left.done)
+
+
+def left_of(shop: Instance, order: Sequence[int], starts: Order, ends: Order, at: int, down: Mapping[int, int],
+            new: Sequence[int] = ()) -> Left:
+    """Return what is left of a sequence at a time, and after it the jobs `new`. Operations have started and ended, or
+    start and end, at these times.
+
+    Each operation that starts after `at` waits for one that ends after `at`, so the times that are left have the ends
+    of the schedule less `at`."""
     # All that takes time is done, also if the job would still pass machines.
     is_done = (ends[:, -1] <= at) | (begun(starts, ends, at) & ((ends <= at) | (starts == ends)).all(axis=1))
     last = int(np.flatnonzero(begun(starts, ends, at)).max(initial=-1))
-    rows = [Row(place, shop.job_name(order[place]), np.clip(ends[place] - at, 0, ends[place] - starts[place]))
-            for place in np.flatnonzero(~is_done).tolist()]
-    held = sum(row.place is not None and row.place <= last for row in rows)
-    more = [Row(None, shop.job_name(job), shop.times[job]) for job in new]
-    names = {row.name for row in [*rows, *more]}
-    # Pauses of later machines come first: a job waits for those of the machines before it anyway.
-    for machine, until in sorted(down.items(), reverse=True):
-        running = next((row for row in rows if row.place is not None
-                        and starts[row.place, machine] < at < ends[row.place, machine]), None)
-        place = sum(row.place is None or bool(ends[row.place, machine] <= at) for row in rows[:held])
-        if running is not None:
-            running.left[machine] += until - at
-        elif any(row.left[machine] for row in [*rows[place:], *more]):
-            rows.insert(place, pause_of(shop, machine, until - at, names))
-            held += 1
-    rows += more
+    places = np.flatnonzero(~is_done).tolist()
+    rows = [Row(shop.job_name(order[place]), np.clip(ends[place] - at, 0, ends[place] - starts[place]))
+            for place in places]
+    running = {machine: row for place, row in zip(places, rows)
+               for machine in np.flatnonzero((starts[place] < at) & (at < ends[place])).tolist()}
+    for machine in running.keys() & down.keys():
+        running[machine].left[machine] += down[machine] - at
+    rows += [Row(shop.job_name(job), shop.times[job].copy()) for job in new]
     if not rows:
         raise ValueError("all jobs are finished by then")
-    left = type(shop)(np.array([row.left for row in rows]), name=shop.name, job_names=[row.name for row in rows],
+    free = {machine: until - at for machine, until in down.items() if machine not in running
+            and any(row.left[machine] for row in rows)}
+    done = tuple(shop.job_name(order[place]) for place in np.flatnonzero(is_done).tolist())
+    return Left(rows, sum(place <= last for place in places), done, free)
+
+
+def shop_of(shop: Instance, rows: Sequence[Row]) -> Instance:
+    """A shop with these jobs."""
+    return type(shop)(np.array([row.left for row in rows]), name=shop.name, job_names=[row.name for row in rows],
                       machine_names=shop.machine_names, unit=shop.unit, decimals=shop.decimals)
-    return Rest(left, held, tuple(shop.job_name(order[place]) for place in np.flatnonzero(is_done).tolist()))
 
 
-def pause_of(shop: Instance, machine: int, time: int, names: set[str]) -> Row:
-    """A machine that is down, as a job that takes this time there and none elsewhere, with a new name."""
-    text = f"({shop.machine_name(machine)} is down)"
-    name = next(each for number in count(1) if (each := text if number == 1 else f"{text} {number}") not in names)
-    left = np.zeros(shop.machines, dtype=np.int64)
-    left[machine] = time
-    return Row(None, name, left)
+def with_pauses(shop: Instance, rows: list[Row], held: int, free: Mapping[int, int]) -> tuple[list[Row], int]:
+    """Insert a job for each machine that is free from a time on only: before the first of the held jobs that needs it,
+    or else after them. It takes as long as the machine would be free before. Jobs before it that skip the machine pass
+    it, and for those after it that changes nothing, since they wait for one that needs it. Return the jobs, and how
+    many are held."""
+    names, made, count_before = {row.name for row in rows}, list[Row](), 0
+    places = {machine: next((at for at, row in enumerate(rows[:held]) if row.left[machine]), held) for machine in free}
+    for machine in sorted(free, key=lambda each: (places[each], -each)):
+        made, count_before = [*made, *rows[count_before:places[machine]]], places[machine]
+        before = shop_of(shop, made).heads(range(len(made)))[-1, machine] if made else 0
+        if before < free[machine]:
+            text = f"({shop.machine_name(machine)} is down)"
+            name = next(each for number in count(1) if (each := text if number == 1 else f"{text} {number}")
+                        not in names)
+            made.append(Row(name, np.where(np.arange(shop.machines) == machine, free[machine] - before, 0)))
+    return [*made, *rows[count_before:]], held + len(made) - count_before
 
 
 def down_of(shop: Instance, down: Mapping[int | str, int], at: int) -> dict[int, int]:

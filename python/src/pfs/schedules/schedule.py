@@ -75,10 +75,12 @@ class Schedule:
         return int(self.ends[-1, -1])
 
     def _operations(self) -> Iterator[tuple[int, int, int, int]]:
-        """Yield job, machine, start and end of each operation, by place and then by machine."""
+        """Yield job, machine, start and end of each operation that takes time, by place and then by machine; of a job
+        that takes none the first one."""
         for job, starts, ends in zip(self.order.tolist(), self.starts.tolist(), self.ends.tolist()):
             for machine, (start, end) in enumerate(zip(starts, ends)):
-                yield job, machine, start, end
+                if start < end or machine == 0 and starts == ends:
+                    yield job, machine, start, end
 
     def critical_path(self) -> list[tuple[int, int]]:
         """Return the places and machines of a critical path: operations that follow each other without a wait, from
@@ -188,8 +190,8 @@ class Schedule:
     def to_csv(self, path: str | os.PathLike[str] | None = None, delimiter: str = ",", *,
                mark: bool = False, calendar: Calendar | None = None,
                language: str | os.PathLike[str] = "en") -> str | None:
-        """Write the operations as CSV, or return them as a text if there is no path. A name that a spreadsheet would
-        interpret as a formula gets an apostrophe.
+        """Write the operations that take time as CSV, or return them as a text if there is no path. A job that takes
+        none has a row for its first machine. A name that a spreadsheet would interpret as a formula gets an apostrophe.
 
         Parameters
         ----------
@@ -228,8 +230,8 @@ class Schedule:
 
     def to_xlsx(self, path: str | os.PathLike[str], *, calendar: Calendar | None = None,
                 language: str | os.PathLike[str] = "en") -> None:
-        """Write the operations as a workbook, with numbers, or with dates and times of day. Other sheets have
-        the :meth:`report`, and the jobs of each machine. This needs openpyxl.
+        """Write the operations that :meth:`to_csv` writes as a workbook, with numbers, or with dates and times of day.
+        Other sheets have the :meth:`report`, and the jobs of each machine. This needs openpyxl.
 
         Parameters
         ----------
