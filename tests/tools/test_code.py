@@ -90,18 +90,14 @@ def imports_of(path: str) -> set[tuple[str, str]]:
     return found
 
 
-# The page takes the options on a sheet `pfs` as `pfs-plan` does.
-OF_OPTIONS = {("web/plans.py", "pfs.commands.cli"), ("web/plans.py", "pfs.commands.main")}
-
-
 @pytest.mark.parametrize("path", sorted(str(path.relative_to(PACKAGE)) for path in PACKAGE.glob("*/**/*.py")))
 def test_imports_go_down(path: str) -> None:
     """As ARCHITECTURE.md says, with lazy imports and those for types. No name with an underscore is taken, and only
-    command lines import argparse and each other, but for what reads the options of a workbook."""
+    command lines import argparse and each other."""
     own, above = path.split("/")[0], [*LAYERS]
     for module, name in imports_of(path):
         folder = module.split(".")[1] if module.startswith("pfs.") else ""
-        is_command = own == "commands" or path.endswith("__main__.py") or (path, module) in OF_OPTIONS
+        is_command = own == "commands" or path.endswith("__main__.py")
         assert module != "argparse" and folder != "commands" or is_command, f"{path} imports {module}"
         if folder and folder != own and (path, module) not in TYPES:
             assert folder in LAYERS[own] and above.index(folder) < above.index(own), f"{path} imports {module}"

@@ -1,5 +1,8 @@
-"""Units of time, and times with decimals."""
+"""Units of time, times with decimals, and whole numbers."""
 from __future__ import annotations
+
+import re
+from collections.abc import Callable
 
 # Units of time, in which machines may be named too, and how many seconds each has. Other words in brackets, as in
 # "drill (left)", belong to the machine's name.
@@ -35,3 +38,14 @@ def amount(time: int, decimals: int, unit: str) -> str:
         return str(time)
     whole, part = divmod(abs(time), 10**decimals)
     return f"{'-' if time < 0 else ''}{whole}.{part:0{decimals}d}"
+
+
+def whole(least: int, most: int) -> Callable[[str], int]:
+    """What reads integers from `least` to `most`."""
+
+    def read(text: str) -> int:
+        if not re.fullmatch("[0-9]{1,30}", text) or not least <= int(text) <= most:
+            raise ValueError(f"{text!r} is not a whole number from {least:,} to {most:,}")
+        return int(text)
+
+    return read

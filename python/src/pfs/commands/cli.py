@@ -11,6 +11,7 @@ from typing import Any, NoReturn, TextIO
 
 from pfs.base.faults import Fault, Refused, TableFault
 from pfs.base.names import shown
+from pfs.base.units import whole
 
 # Exit statuses, the same as those of the program pfs.
 REFUSED, USAGE, SYSTEM = 2, 3, 4
@@ -40,13 +41,19 @@ class ShowVersion(argparse.Action):
         parser.exit()
 
 
-def number(least: int, most: int) -> Callable[[str], int]:
+def typed(read: Callable[[str], Any]) -> Callable[[str], Any]:
+    """Return a parser of an option, whose errors are those of `read`."""
+    def read_text(text: str) -> Any:
+        try:
+            return read(text)
+        except ValueError as fault:
+            raise argparse.ArgumentTypeError(str(fault)) from None
+    return read_text
+
+
+def number(least: int, most: int) -> Callable[[str], Any]:
     """Return a parser of integers from `least` to `most`."""
-    def read(text: str) -> int:
-        if not re.fullmatch("[0-9]{1,30}", text) or not least <= int(text) <= most:
-            raise argparse.ArgumentTypeError(f"{text!r} is not a whole number from {least:,} to {most:,}")
-        return int(text)
-    return read
+    return typed(whole(least, most))
 
 
 def inches(text: str) -> float:

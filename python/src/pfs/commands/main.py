@@ -4,9 +4,7 @@ from __future__ import annotations
 
 import argparse
 import contextlib
-import csv
 import errno
-import io
 import os
 import re
 import shlex
@@ -17,7 +15,6 @@ import zipfile
 import zlib
 from collections.abc import Callable, Iterable, Iterator, Sequence
 from functools import partial
-from itertools import islice
 from types import SimpleNamespace
 from typing import Any
 
@@ -30,26 +27,25 @@ from pfs.base.units import amount
 from pfs.base.workbooks import OPTIONS_SHEET, Workbook
 from pfs.binding import library as c
 from pfs.binding.rounds import USUAL
-from pfs.commands.cli import CommandLine, Misused, ShowVersion, number, report, run, written
+from pfs.commands.cli import CommandLine, Misused, ShowVersion, number, report, run, typed, written
 from pfs.files.instances import content_of, read, read_order
 from pfs.files.state import State
 from pfs.files.tables import Table, described, table_of, write_table
 from pfs.plan.dates import dates_in, is_of_another
+from pfs.plan.options import DECIMAL_SIGNS, OPTIONS, options_in
 from pfs.plan.orders import FoundOrder, moved, numbers_by_name, order_in, stated_end
 from pfs.plan.plan import Limits, Plan, calendar_of, is_provable
-from pfs.schedules.calendar import Calendar, Clock, begin_of, dates_of, days_of, needed, shifts_of, text_of as date_text
+from pfs.schedules.calendar import Calendar, Clock, needed, text_of as date_text
 from pfs.schedules.chart import ending_of
 from pfs.shops.instance import Instance
 from pfs.shops.proof import MOST_JOBS, MOST_MACHINES, solve_and_prove
-from pfs.shops.search import Search, do_nothing, limit_of
+from pfs.shops.search import Search, do_nothing
 from pfs.shops.solution import Solution
 
 SIGNALS = (signal.SIGINT, signal.SIGTERM)
-DECIMAL_SIGNS = {"point": ".", "comma": ","}
 # The endings of tables, and of schedules besides.
 TABLES = ("", ".csv", ".tsv", ".txt", ".xlsx")
-# The options that name files, and the beginnings of messages about options of searches.
-OF_FILES = ("order", "compare", "schedule", "rest", "chart")
+# The beginnings of messages about options of searches.
 NUMBER_OPTION = re.compile("^(?=(?:rounds|take|passes|seed|language) must |start has )")
 
 
@@ -167,7 +163,7 @@ def plan_command(given: argparse.Namespace) -> int:
                   given.rest)
     words_of(given.language)
     table = table_of(given.table, given.unit, DECIMAL_SIGNS.get(given.decimal), given.allow_totals,
-                     names_in(given.machines), given.sheet, given.decimals, given.quantity, given.setup, given.jobs)
+                     given.machines, given.sheet, given.decimals, given.quantity, given.setup, given.jobs)
     if table.note:
         written(sys.stderr, f"pfs: {as_options(shown(table.note))}\n")
     if calendar is not None:
@@ -192,11 +188,6 @@ def plan_command(given: argparse.Namespace) -> int:
                 faults.append(failure)
     statuses = [report("pfs", each, as_options) for each in faults]
     return statuses[0] if statuses else status_of(caught)
-
-
-def names_in(text: str | None) -> list[str]:
-    """The names of columns in an option: as a row of a table, so that one with a comma may be in quotes."""
-    return next(csv.reader([] if text is None else [text], skipinitialspace=True), [])
 
 
 def outputs_of(given: argparse.Namespace, plan: Plan, table: Table,
@@ -303,49 +294,29 @@ def printed(text: str) -> None:
     sys.stdout.flush()
 
 
-def seconds_of(text: str) -> float:
-    """Parse a time limit."""
-    try:
-        # Python takes 1_0 and other digits as numbers.
-        seconds = limit_of(float(text if text.isascii() and "_" not in text else "nan"))
-    except ValueError:
-        raise argparse.ArgumentTypeError(f"{text!r} is not a number of seconds") from None
-    assert seconds is not None
-    return seconds
+def adder(group: argparse._ActionsContainer) -> Callable[..., None]:
+    """What adds an option, which is read as `OPTIONS` says."""
 
+    def add(name: str, **more: Any) -> None:
+        own = OPTIONS[name.removeprefix("--")]
+        if own.is_many:
+            more |= {"action": "append", "default": []}
+        if own.read is None:
+            more["action"] = "store_true"
+        elif "choices" not in more:
+            more["type"] = typed(own.read)
+        group.add_argument(name, **more)
 
-def checked(reader: Callable[[str], object]) -> Callable[[str], str]:
-    """Takes the texts that this reads."""
-
-    def read_text(text: str) -> str:
-        try:
-            reader(text)
-        except ValueError as fault:
-            raise argparse.ArgumentTypeError(str(fault)) from None
-        return text
-
-    return read_text
-
-
-def until_of(text: str) -> tuple[str, str]:
-    """Parse a machine and a date and time.
-
-    >>> until_of("a = b=2026-12-01T13:00")
-    ('a = b', '2026-12-01T13:00')
-    """
-    machine, sign, moment = text.rpartition("=")
-    if not sign:
-        raise argparse.ArgumentTypeError(f"{text!r} is not a machine and a time such as drill=2026-12-01T13:00")
-    return machine, checked(begin_of)(moment)
+    return add
 
 
 def add_search_words(add: Callable[..., object], rounds: str, seconds: str, take: str, passes: str) -> None:
     """Add the options of all searches, with what is said of some of them."""
-    add("--rounds", type=number(0, c.MOST_ROUNDS), metavar="R", help=f"up to which round, else {rounds}")
-    add("--seconds", type=seconds_of, metavar="S", help=f"a time limit{seconds}")
-    add("--take", type=number(1, c.MOST_JOBS), metavar="D", help=f"the destruction size, else {take}")
-    add("--passes", type=number(0, c.MOST_PASSES), metavar="P", help=f"0 to 100, else {passes}")
-    add("--seed", type=number(0, c.MOST_SEED), default=0, metavar="S", help="of 64 bits, else 0")
+    add("--rounds", metavar="R", help=f"up to which round, else {rounds}")
+    add("--seconds", metavar="S", help=f"a time limit{seconds}")
+    add("--take", metavar="D", help=f"the destruction size, else {take}")
+    add("--passes", metavar="P", help=f"0 to 100, else {passes}")
+    add("--seed", default=0, metavar="S", help="of 64 bits, else 0")
 
 
 def add_method_words(add: Callable[..., object]) -> None:
@@ -357,7 +328,7 @@ def add_method_words(add: Callable[..., object]) -> None:
     add("--method", choices=tuple(USUAL), default="iterated-greedy",
         help="how the order is searched: iterated-greedy, which also accepts longer orders, or solve, as `pfs solve` "
         "does it; else iterated-greedy")
-    add("--prove", type=seconds_of, metavar="S",
+    add("--prove", metavar="S",
         help="for how many seconds to try to prove after the search that its order is optimal, else 1, and 0 with "
         "--rounds; before the search it is tried for up to 0.1 of them; it isn't tried for an order that is only "
         "evaluated, while jobs are held or kept, and beyond 256 jobs or 64 machines")
@@ -377,14 +348,14 @@ def words_of_line(plan: argparse.ArgumentParser, line: str) -> list[str]:
 def add_plan_words(plan: argparse.ArgumentParser) -> None:
     """Add the arguments of `plan`."""
     plan.set_defaults(run=plan_command)
-    add_method_words(plan.add_argument)
+    add_method_words(adder(plan))
     # Options may be in a file, as in a shell: @week.txt.
     plan.fromfile_prefix_chars = "@"
     setattr(plan, "convert_arg_line_to_args", partial(words_of_line, plan))
     plan.add_argument("--version", action=ShowVersion)
     plan.add_argument("table", metavar="TIMES.csv", help="a row for each job, a column for each machine, with names; "
                       "also a workbook .xlsx")
-    add = plan.add_argument_group("the table").add_argument
+    add = adder(plan.add_argument_group("the table"))
     add("--unit", default="", help="of the times; else what stands in brackets in the first cell")
     add("--decimal", choices=tuple(DECIMAL_SIGNS),
         help="the decimal sign of the times; the other sign may then group thousands; else the sign that the table "
@@ -396,26 +367,26 @@ def add_plan_words(plan: argparse.ArgumentParser) -> None:
         "columns after it, unless --machines names them")
     add("--quantity", metavar="COLUMN",
         help="the column with the pieces of each job: the times of the table are those of a piece")
-    add("--setup", metavar="[MACHINE=]COLUMN", action="append", default=[],
+    add("--setup", metavar="[MACHINE=]COLUMN",
         help="the column with the set-up of each job, which is added to its times that aren't 0, on all machines or on "
         "this one; may be given more than once")
-    add("--allow-totals", action="store_true",
+    add("--allow-totals",
         help="take rows and columns with the names of sums, means or quantities, and a last one with the sums of the "
         "others, as jobs and machines")
     add("--sheet", metavar="NAME", help="the sheet of a workbook, else the one that it opens with")
-    add("--decimals", type=number(0, 9), metavar="D",
+    add("--decimals", metavar="D",
         help="round times with more decimals than this, 0 to 9; by default none is rounded")
-    add_order_words(plan.add_argument_group("the order").add_argument)
-    add_date_words(plan.add_argument_group("dates and shifts").add_argument)
-    add = plan.add_argument_group("what is written").add_argument
-    add("--schedule", metavar="OUT.csv", action="append", default=[],
+    add_order_words(adder(plan.add_argument_group("the order")))
+    add_date_words(adder(plan.add_argument_group("dates and shifts")))
+    add = adder(plan.add_argument_group("what is written"))
+    add("--schedule", metavar="OUT.csv",
         help="when each operation starts and ends, as .csv or .xlsx, or as .ics, of which each machine has a file; may "
         "be given more than once")
-    add("--rest", metavar="OUT.csv", action="append", default=[],
+    add("--rest", metavar="OUT.csv",
         help="the table of the plan, with the times that are left at --now, as .csv or .xlsx, to correct it by hand")
-    add("--chart", metavar="OUT.svg", action="append", default=[],
+    add("--chart", metavar="OUT.svg",
         help="the chart, as .svg, .png, .pdf or a page .html; may be given more than once")
-    add("--report", action="store_true",
+    add("--report",
         help="print after the order how busy each machine is, when each job is made, and the bottleneck")
     add("--title", default=True, metavar="TEXT", help="the title of charts, else what they show")
     add("--language", default="en", metavar="LANGUAGE",
@@ -429,16 +400,16 @@ def add_order_words(add: Callable[..., object]) -> None:
         help="an order to begin with: the names of the jobs, one in a line, or what plan printed, or its schedule. "
         "Jobs that the table lacks are left out, and jobs that the order lacks are inserted at their best places. It "
         "is only evaluated if neither --rounds, --seconds nor an option that holds jobs is there")
-    add("--first", metavar="NAME", action="append", default=[],
+    add("--first", metavar="NAME",
         help="a job that has the first place, after those that --hold holds; given more than once, these jobs come "
         "in this order")
-    add("--hold", type=number(1, c.MOST_JOBS), default=0, metavar="K",
+    add("--hold", default=0, metavar="K",
         help="the first K jobs of --order that the table has keep the first places")
-    add("--keep", action="store_true", help="the jobs of --order keep their order; only new ones are moved")
-    add("--now", type=checked(begin_of), metavar="DATETIME",
+    add("--keep", help="the jobs of --order keep their order; only new ones are moved")
+    add("--now", metavar="DATETIME",
         help="plan what is left at this date and time of --order, which began at --begin: jobs that are finished are "
         "left out, and those that have begun are held, with the times that are left")
-    add("--down", type=until_of, metavar="MACHINE=DATETIME", action="append", default=[],
+    add("--down", metavar="MACHINE=DATETIME",
         help="until when a machine is down, from --now or --begin on; may be given more than once")
     add("--compare", metavar="FILE",
         help="another order, as for --order: standard error says how both end, with this table and these shifts, what "
@@ -447,18 +418,18 @@ def add_order_words(add: Callable[..., object]) -> None:
 
 def add_date_words(add: Callable[..., object]) -> None:
     """Add the options that say when there is work."""
-    add("--begin", type=checked(begin_of), metavar="DATETIME",
+    add("--begin", metavar="DATETIME",
         help="when the work begins, such as 2026-11-30T06:00; the schedule and the chart then have local dates and "
         "times of day, for which times need the unit min, h, s or d")
-    add("--shift", type=checked(shifts_of), action="append", default=[], metavar="FROM-TO",
+    add("--shift", metavar="FROM-TO",
         help="when there is work, such as 06:00-14:00, also across midnight; several with commas, or the option more "
         "than once; by default around the clock. A day of the week or a date has other shifts by fri:06:00-12:00 or "
         "2026-12-05:06:00-12:00. From a date on, 2026-12-02..:06:00-18:30 changes the shifts of the days without own "
         "ones, and 2026-12-02..fri:06:00-14:00 those of Fridays. Operations stop at the end of a shift and continue "
         "with the next one; this changes neither the order nor the makespan")
-    add("--days", type=checked(days_of), action="append", default=[], metavar="DAYS",
+    add("--days", metavar="DAYS",
         help="the days on which the other shifts start, such as mon-fri or mon,wed,fri; by default all")
-    add("--closed", type=checked(dates_of), action="append", default=[], metavar="DATES",
+    add("--closed", metavar="DATES",
         help="dates on which no shift starts, such as 2026-12-24..2027-01-01; several with commas, or the option more "
         "than once")
 
@@ -478,7 +449,7 @@ def words() -> argparse.ArgumentParser:
     parser.add_argument("--version", action=ShowVersion)
     commands = parser.add_subparsers(required=True, metavar="COMMAND")
     search = commands.add_parser("search", help="searches an instance file, prints an order file")
-    add_search_words(search.add_argument, "1,000,000", "", "4", "0")
+    add_search_words(adder(search), "1,000,000", "", "4", "0")
     search.add_argument("file", metavar="FILE")
     search.add_argument("--layout", choices=tuple(c.LAYOUTS), required=True, help="the layout of the instance file")
     search.add_argument("--block", type=number(1, c.MOST_BLOCKS), default=1, metavar="K", help="counted from 1")
@@ -516,23 +487,22 @@ def command(line: list[str], parser: argparse.ArgumentParser) -> int:
 
 
 def parsed(line: list[str], parser: argparse.ArgumentParser) -> argparse.Namespace:
-    """Parse a command line, before whose options come those of the sheet `pfs` of its workbook."""
+    """Parse a command line, before whose options come those of files and, before these, of the sheet `pfs` of its
+    workbook."""
+    count = int(parser.prog != "pfs-plan")
+    line = [*line[:count], *sorted(line[count:], key=lambda word: not word.startswith("@"))]
     given = parser.parse_args(line)
-    words = sheet_words(given.table) if given.run is plan_command else []
-    if words:
-        command = line[:1] if parser.prog != "pfs-plan" else []
+    if given.run is plan_command and has_options(given.table):
         try:
-            with contextlib.redirect_stdout(io.StringIO()):
-                own = parser.parse_args([*command, *words, given.table])
-            options = [option for option in OF_FILES if getattr(own, option)]
-            options += [] if own.language in ("en", "de") else ["language"]
-            if options:
-                raise Misused(f"--{options[0]} names a file, which only the command line may do")
-        except (Misused, SystemExit) as error:
-            why = error if isinstance(error, Misused) else "with --help or --version nothing is planned"
-            raise Misused(f"{given.table}, sheet {OPTIONS_SHEET}: {why}") from None
+            found = options_in(Workbook(content_of(given.table, "table"), given.table))
+        except Fault:
+            raise
+        except ValueError as fault:
+            raise Misused(f"{given.table}, {fault}") from None
+        words = [f"--{name}={text}" for name, texts in found.items() for text in texts]
+        words += [f"--{name}" for name, texts in found.items() if not texts]
         tell(given.table, f"options of the sheet {OPTIONS_SHEET!r}", words)
-        given = parser.parse_args([*command, *words, *line[len(command):]])
+        given = parser.parse_args([*line[:count], *words, *line[count:]])
     given.files = [word[1:] for word in line if word.startswith("@")]
     return given
 
@@ -545,24 +515,6 @@ def has_options(path: str) -> bool:
             return f'name="{OPTIONS_SHEET}"'.encode() in part.read(1_000_000).lower()
     except (OSError, KeyError, RuntimeError, zipfile.BadZipFile, zlib.error, NotImplementedError):
         return False
-
-
-def sheet_words(path: str) -> list[str]:
-    """The options on the sheet `pfs` of a workbook, if it has one: each row has the name of an option, without the
-    dashes or with them, and perhaps its value. What begins with # is a comment."""
-    if not has_options(path):
-        return []
-    book = Workbook(content_of(path, "table"), path)
-    sheet = next((name for name in book.names if name.casefold() == OPTIONS_SHEET), book.first)
-    if sheet == book.first:
-        return []
-    words: list[str] = []
-    for row in islice(csv.reader(io.StringIO(book.csv_of(sheet))), 1, None):
-        name, *values = [re.sub(r"(?<=[0-9]) 00:00:00$", "", cell.strip()) for cell in row if cell.strip()] or ["#"]
-        if len(values) > 1 and not name.startswith("#"):
-            raise Misused(f"{path}, sheet {OPTIONS_SHEET}: {name} has several values: write a row for each")
-        words += ["=".join([f"--{name.lstrip('-')}", *values])] if not name.startswith("#") else []
-    return words
 
 
 def set_limits(given: argparse.Namespace) -> None:

@@ -3,9 +3,6 @@ are called apart (`pfs.web.apart`)."""
 from __future__ import annotations
 
 import base64
-import contextlib
-import csv
-import io
 import pathlib
 import re
 import zipfile
@@ -16,9 +13,8 @@ from pfs.base.languages import words_of
 from pfs.base.names import shown
 from pfs.base.wording import as_controls
 from pfs.base.workbooks import MOST_ROWS, OPTIONS_SHEET, Workbook
-from pfs.commands.cli import Misused
-from pfs.commands.main import DECIMAL_SIGNS, parsed, plan_words
 from pfs.files import tables
+from pfs.plan.options import DECIMAL_SIGNS, OPTIONS, options_in
 from pfs.plan.orders import moved, numbers_by_name, order_in
 from pfs.plan.plan import Plan, calendar_of
 from pfs.schedules.calendar import begin_of, needed, text_of
@@ -68,8 +64,9 @@ def read(given: dict[str, Any], folder: str) -> dict[str, Any]:
     faults, sheets, marked = list[TableFault](), list[str](), None
     if content.startswith(tables.ARCHIVE):
         # A sheet is named when another one is chosen.
-        own = {} if sheet else set_in(content, pathlib.Path(folder, "table.xlsx"))
-        options, book = {**options, **own.get("typed", {})}, Workbook(content, name)
+        book = Workbook(content, name)
+        own = {} if sheet else set_in(book)
+        options = {**options, **own.get("typed", {})}
         sheets, sheet = [each for each in book.names if each.casefold() != OPTIONS_SHEET], options.get("sheet")
         if own and sheet and sheet not in book.names:
             raise Wrong(f"{name} has no sheet {sheet!r}, but {', '.join(map(repr, book.names))}")
@@ -86,23 +83,18 @@ def read(given: dict[str, Any], folder: str) -> dict[str, Any]:
             **shop_of(rows, {**options, "delimiter": delimiter, "texts": marked})}
 
 
-def set_in(content: bytes, path: pathlib.Path) -> dict[str, Any]:
+def set_in(book: Workbook) -> dict[str, Any]:
     """What the sheet `pfs` of a workbook sets, as for `pfs-plan`, and the options that have no field on the page."""
-    path.write_bytes(content)
-    try:
-        with contextlib.redirect_stderr(io.StringIO()):
-            found, usual = (vars(parsed([str(each)], plan_words())) for each in (path, path.with_name("none")))
-    except Misused as fault:
-        raise Wrong(str(fault).removeprefix(f"{path}, ")) from None
-    given = {name for name, value in found.items() if value != usual[name]} - {"table"}
-    fields = {*"unit sheet decimals decimal machines allow_totals begin shift days closed".split()}
-    typed = {**{name: found[name] for name in ("unit", "sheet", "decimals")}, "totals": found["allow_totals"],
-             "decimal": DECIMAL_SIGNS.get(found["decimal"], ""), "machines": next(csv.reader(
-                 [found["machines"] or ""], skipinitialspace=True), [])}
-    begin = text_of(begin_of(found["begin"]), 0).replace(" ", "T") if found["begin"] else ""
-    dates = {"begin": begin, "shifts": "\n".join(found["shift"])}
-    dates |= {name: ",".join(found[name]) for name in ("days", "closed")}
-    return {"typed": typed, "calendar": dates, "unused": sorted(given - fields)} if given else {}
+    found = options_in(book)
+    last = {name: OPTIONS[name].value(given) for name, given in found.items()}
+    typed = {**{name: last.get(name) for name in ("sheet", "decimals")}, "unit": last.get("unit", ""),
+             "totals": last.get("allow-totals", False), "decimal": DECIMAL_SIGNS.get(last.get("decimal", ""), ""),
+             "machines": last.get("machines", [])}
+    begin = text_of(begin_of(last["begin"]), 0).replace(" ", "T") if "begin" in last else ""
+    dates = {"begin": begin, "shifts": "\n".join(found.get("shift", []))}
+    dates |= {name: ",".join(found.get(name, [])) for name in ("days", "closed")}
+    unused = found.keys() - {*"unit sheet decimals decimal machines allow-totals begin shift days closed".split()}
+    return {"typed": typed, "calendar": dates, "unused": sorted(unused)} if found else {}
 
 
 def shop_of(rows: list[tuple[int, list[str]]], options: dict[str, Any]) -> dict[str, Any]:
