@@ -308,7 +308,7 @@ def test_rows_are_read_with_options(rows: Any, options: Any, shop: Any, rounded:
 
 def test_columns_of_jobs_quantities_and_set_ups_are_chosen(client: FlaskClient) -> None:
     """And the order of the machines. A job that skips a machine has no set-up there."""
-    rows = [[1, ["plant", "order", "pieces", "set-up", "saw [min/pc]", "drill"]],
+    rows = [[1, ["plant", "order", "pieces", "set-up", "saw [min/pc]", "drill [min/pc]"]],
             [2, ["1000", "a", "2", "1", "3", "0"]], [3, ["1000", "b", "3", "2", "0", "2"]]]
     options = {"jobs": "order", "quantity": "pieces", "setup": ["saw=set-up"]}
     for machines, times in ((["drill", "saw"], [[0, 7], [6, 0]]), ([], [[7, 0], [0, 6]])):
@@ -316,7 +316,7 @@ def test_columns_of_jobs_quantities_and_set_ups_are_chosen(client: FlaskClient) 
         assert got["faults"] == [] and got["shop"]["times"] == times and got["shop"]["jobs"] == ["a", "b"]
         assert got["shop"]["machines"] == (machines or ["saw", "drill"])
     got = answer(client, "/api/read", {"rows": rows, "options": {**options, "quantity": ""}})
-    assert "say which column has the quantities (Column of quantities, above the table)" in got["faults"][0]["text"]
+    assert "say which column has the quantities (Column of quantities, above the table)" in str(got["faults"])
 
 
 @pytest.mark.parametrize("code", ["utf-8", "cp1252"])
@@ -630,12 +630,12 @@ def test_kept_orders_are_compared_on_the_table_as_it_is(client: FlaskClient) -> 
     """As if each were the plan, with the dates of the plan or its own ones. One without a job of the table isn't
     compared, nor one with dates that can't be."""
     kept = [{"order": ["chair", "shelf", "gone", "box"], "held": 1}, {"order": ["shelf", *ORDER[:3]], "held": 0},
-            {"order": ORDER[::-1], "held": 4, "calendar": {"begin": "2026-12-07"}}, {"order": ["gone"], "held": 0},
+            {"order": ["chair", "box", "table", "shelf"], "held": 4, "calendar": {"begin": "2026-12-07"}}, {"order": ["gone"], "held": 0},
             {"order": ORDER, "held": 0, "calendar": {"begin": "soon"}}, {"order": ["box"], "held": 1}]
     # A bound of the plan is none of the others'.
     got = answer(client, "/api/plan", {**PLAN, "kept": kept, "least": 155, "claimed": 155, "digest": TABLE_OF_SHOP})
-    assert [each and (each["gone"], each["new"], each["moved"]) for each in got["kept"]] == [
-        (["gone"], ["table"], ["box"]), ([], [], ["shelf"]), ([], [], ["table", "chair", "shelf"]), None, None,
+    assert [each and (each["gone"], sorted(each["new"]), each["moved"]) for each in got["kept"]] == [
+        (["gone"], ["table"], ["box"]), ([], [], ["shelf"]), ([], [], ["chair"]), None, None,
         ([], ["chair", "shelf", "table"], [])]
     for each, found in zip(kept, got["kept"]):
         if found:

@@ -140,6 +140,8 @@ window.fetch = async (path, given = {}) => {
   try {
     const got = await ownFetch(path, given), content = await got.arrayBuffer();
     await wait;
+    // What comes late is taken a moment later.
+    if (wait) { busy += 1; ownWait(() => { busy -= 1; }, 100); }
     return new Response(content, got);
   } finally { busy -= !wait; }
 };

@@ -183,10 +183,11 @@ def plan_from(given: dict[str, Any]) -> tuple[Plan, dict[str, Any]]:
     least, claimed = (field(given, name, int, 0, 2**53) for name in ("least", "claimed"))
     said: dict[str, Any] = placed(plan, texts(given.get("order")), field(given, "held", int, 0, shop.jobs))
     most = plan.schedule.makespan
-    are_known = [number <= most and plan.know(number, digest) for number in (claimed, least)]
+    known = {number: number <= most and plan.know(number, digest) for number in (claimed, least)}
     # What only a file says isn't proved here.
-    said |= {"isOther": not all(are_known),
-             "claimed": plan.span(claimed) if are_known[0] and claimed > plan.best.bound else ""}
+    plan.know(known[least] * least, digest)
+    said |= {"isOther": not all(known.values()),
+             "claimed": plan.span(claimed) if known[claimed] and claimed > plan.best.bound else ""}
     # A line has a shift; a comma is between days and dates.
     begin, shifts, days, closed = (plain(field(field(given, "calendar", dict, {}), name, str, "").strip())
                                    for name in ("begin", "shifts", "days", "closed"))
