@@ -148,9 +148,9 @@ class Week:
         act, = self.random.choices([*self.steps], [*self.steps.values()])
         self.done[act.__name__] += 1
         act()
-        moment = self.random.choice([0.01, 0.1, 0.1, 1])
+        moment = self.random.choice([0.01, 0.03, 0.1, 0.5])
         time.sleep(moment)
-        self.look(moment == 1)
+        self.look(moment == 0.5)
         if self.random.random() < 0.3:
             self.start()
             self.page.wait(lambda: self.look()["isQuiet"], "all is told")
@@ -210,7 +210,7 @@ class Week:
         self.click(self.random.choice(["#totals", *(f"[data-key='{at},machine']" for at in (2, 3, 4))]))
 
     def plan(self) -> None:
-        self.run("document.querySelector('#seconds').value = '2'")
+        self.run("const one = document.querySelector('#seconds'); one.options[0].value = one.value = '1'")
         self.click("#plan:enabled")
 
     def move(self) -> None:
@@ -286,6 +286,16 @@ def folder(tmp_path: pathlib.Path) -> pathlib.Path:
     (tmp_path / "token").write_text(f"{TOKEN}\n")
     (tmp_path / "token").chmod(0o600)
     return tmp_path
+
+
+def test_each_step_does_what_it_says(folder: pathlib.Path) -> None:
+    """20,000 steps of the document alone, with answers that come late or never."""
+    script = pathlib.Path(__file__).with_name("page_steps.js").read_text("utf-8")
+    with browser_in(folder) as browser, served() as server:
+        Page(browser, server, folder).open()
+        browser.set_script_timeout(60)
+        for seed in range(4):
+            assert browser.execute_async_script(f"(async (...arguments) => {{ {script} }})(...arguments)", seed, 5_000) == ""
 
 
 @pytest.mark.parametrize("seed", [1])
