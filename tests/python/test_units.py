@@ -297,7 +297,8 @@ def archive_of(**parts: bytes) -> zipfile.ZipFile:
 
 
 @pytest.mark.parametrize(("parts", "why"), [
-    ({"a_xml": b"<" * 10}, ""), ({"a_xml": b"<" * 11}, "its part a.xml is too large"), ({"a_png": b"\x89" + b"<" * 11}, ""),
+    ({"a_xml": b"<" * 10}, ""), ({"a_xml": b"<" * 11}, "its part a.xml is too large"),
+    ({"a_png": b"\x89" + b"<" * 11}, ""),
     ({"A_XML": b"<" * 11}, "its part A.XML is too large"), ({"a_rels": b"<" * 11}, "its part a.rels is too large"),
     ({"styles_xml": b"<" * 8}, ""), ({"styles_xml": b"<" * 9}, "its part styles.xml is too large"),
     ({"worksheets/a_xml": b"<c/>" * 5 + b"<" * 45}, ""), ({"worksheets/a_xml": b"<c/>" * 6}, "it has too many cells"),

@@ -347,8 +347,9 @@ def workbook(sheets: dict[str, list[list[Any]]]) -> bytes:
     return out.getvalue()
 
 
-OPTIONS = {"jobs": ["saw", "order", "job"], "quantity": ["Paint", "pieces"], "setup": ["drill", "saw=drill", "oven=saw"],
-           "unit": ["h", "min"], "machines": ["saw,drill", "paint, saw", '"drill"', "oven"], "decimal": ["comma"],
+OPTIONS = {"jobs": ["saw", "order", "job"], "quantity": ["Paint", "pieces"],
+           "setup": ["drill", "saw=drill", "oven=saw"], "unit": ["h", "min"], "decimal": ["comma"],
+           "machines": ["saw,drill", "paint, saw", '"drill"', "oven"],
            "decimals": [0, 1], "allow-totals": [None], "begin": ["2026-11-30 06:00", datetime.datetime(2026, 12, 1)],
            "shift": ["06:00-14:00", "06:00-08:00,09:00-10:00", "fri:06:00-12:00", "6-14"], "days": ["mon-fri", "tue"],
            "closed": ["2026-12-01", "2026-12-02..2026-12-03"], "sheet": ["KW 49", "KW 50"], "schedule": ["x.csv"],
@@ -630,7 +631,8 @@ def test_kept_orders_are_compared_on_the_table_as_it_is(client: FlaskClient) -> 
     """As if each were the plan, with the dates of the plan or its own ones. One without a job of the table isn't
     compared, nor one with dates that can't be."""
     kept = [{"order": ["chair", "shelf", "gone", "box"], "held": 1}, {"order": ["shelf", *ORDER[:3]], "held": 0},
-            {"order": ["chair", "box", "table", "shelf"], "held": 4, "calendar": {"begin": "2026-12-07"}}, {"order": ["gone"], "held": 0},
+            {"order": ["chair", "box", "table", "shelf"], "held": 4, "calendar": {"begin": "2026-12-07"}},
+            {"order": ["gone"], "held": 0},
             {"order": ORDER, "held": 0, "calendar": {"begin": "soon"}}, {"order": ["box"], "held": 1}]
     # A bound of the plan is none of the others'.
     got = answer(client, "/api/plan", {**PLAN, "kept": kept, "least": 155, "claimed": 155, "digest": TABLE_OF_SHOP})

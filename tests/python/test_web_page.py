@@ -209,6 +209,11 @@ def flat(value: Any, name: str = "") -> dict[str, Any]:
     return {path: found for key, each in inner for path, found in flat(each, str(key)).items()} or {name: value}
 
 
+def text_of(value: Any, comma: str) -> str:
+    """A value of a request in a recorded line, which breaks at blanks."""
+    return json.dumps(value, ensure_ascii=False, separators=(comma, ":"))
+
+
 class Play:
     """Does the steps of a script. After :: is what the page asks (>), as its difference from the request before, and
     what is seen: how many lines less (-), and the new ones (+); or what a question shows (=). After a step that begins
@@ -256,7 +261,7 @@ class Play:
                 data = base64.b64decode(now["content"])
                 now["content"] = next((name for name, each in self.files.items() if each == data), "pasted")
             changed = {path: value for path, value in now.items() if before.get(path, ...) != value}
-            texts = [f"{path}={json.dumps(value, ensure_ascii=False, separators=(',', ':'))}"
+            texts = [f"{path}={text_of(value, ', ' if path == 'kept' else ',')}"
                      for path, value in sorted(changed.items()) if body]
             if body:
                 texts += [f"-{path}" for path in before if path not in now]

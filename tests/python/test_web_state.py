@@ -295,7 +295,7 @@ def test_each_step_does_what_it_says(folder: pathlib.Path) -> None:
         Page(browser, server, folder).open()
         browser.set_script_timeout(60)
         for seed in range(4):
-            assert browser.execute_async_script(f"(async (...arguments) => {{ {script} }})(...arguments)", seed, 5_000) == ""
+            assert browser.execute_async_script(f"(async () => {{ {script} }})()", seed, 5_000) == ""
 
 
 @pytest.mark.parametrize("seed", [1])
