@@ -13,7 +13,8 @@ TOP = pathlib.Path(__file__).resolve().parents[1]
 sys.path[:0] = [str(TOP / "python" / "src"), str(TOP / "tests"), str(TOP / "tests" / "python")]
 os.environ.setdefault("PFS_LIBRARY", str(TOP / "lib" / "out" / "libpfs.so.1"))
 from PIL import Image
-from test_web_page import Page, browser_in, served
+from test_web_page import Page, browser_in
+from test_web_server import served
 
 TIMES = {"A-1024": "45 0 80 105 60 25", "A-1031": "55 35 75 110 60 90", "A-1032": "40 60 0 55 100 70",
          "A-1040": "50 90 25 30 40 105", "A-1047": "50 50 55 80 55 55", "A-1050": "50 50 95 75 20 85",
