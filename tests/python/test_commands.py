@@ -836,8 +836,7 @@ def test_messages_name_options_and_controls_that_there_are() -> None:
     options, controls = zip(*_wording.WORDS.values())
     assert {option.split()[0] for option in options} <= _commands.plan_words()._option_string_actions.keys()
     page = "".join((TOP / "python/src/pfs/web/static" / name).read_text() for name in ("page.html", "result.js"))
-    for name in (control.removesuffix(", above the table").strip('"') for control in controls
-                 if not control.endswith(" of pfs-plan")):
+    for name in (control.removesuffix(", above the table").strip('"') for control in controls):
         assert re.search(rf'[>"]{name}[ <,"]', page) or name in ("the tick for sums", "the ticks above the columns")
 
 

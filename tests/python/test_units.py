@@ -297,21 +297,38 @@ def archive_of(**parts: bytes) -> zipfile.ZipFile:
 
 
 @pytest.mark.parametrize(("parts", "why"), [
-    ({"a_xml": b"<" * 10}, ""), ({"a_xml": b"<" * 11}, "its part a.xml is too large"), ({"a_png": b"<" * 11}, ""),
+    ({"a_xml": b"<" * 10}, ""), ({"a_xml": b"<" * 11}, "its part a.xml is too large"),
+    ({"a_png": b"\x89" + b"<" * 11}, ""),
     ({"A_XML": b"<" * 11}, "its part A.XML is too large"), ({"a_rels": b"<" * 11}, "its part a.rels is too large"),
     ({"styles_xml": b"<" * 8}, ""), ({"styles_xml": b"<" * 9}, "its part styles.xml is too large"),
-    ({"worksheets/a_xml": b"<c/>" * 5 + b"<" * 20}, ""), ({"worksheets/a_xml": b"<c/>" * 6}, "it has too many cells"),
-    ({"worksheets/a_xml": (b"<row><x:c/>" + b"<c >" * 4) * 2}, ""),
-    ({"worksheets/a_xml": b"<x:row/>" + b"<c>" * 5, "worksheets/b_xml": b"<c>" * 5}, ""),
-    ({"worksheets/a_xml": b"<x:row/>" + b"<c>" * 5, "worksheets/b_xml": b"<row>" + b"<c>" * 5 + b"<row><c>"},
-     "it has too many cells"),
+    ({"worksheets/a_xml": b"<c/>" * 5 + b"<" * 45}, ""), ({"worksheets/a_xml": b"<c/>" * 6}, "it has too many cells"),
+    ({"worksheets/a_xml": b"<c/>" * 5 + b"<" * 46}, "its part worksheets/a.xml is too large"),
+    ({"worksheets/a_xml": (b"<row><x:c/>" + b"<c >" * 3) * 2}, ""),
+    ({"worksheets/a_xml": (b"<row><x:c/>" + b"<c >" * 3) * 2 + b"<row>"}, "it has too many cells"),
+    ({"worksheets/a_xml": b"<x:col/>" * 5 + b"<row>" * 5}, ""),
+    ({"worksheets/a_xml": b"<col/>" * 6}, "it has too many cells"),
+    ({"worksheets/a_xml": b"<row/>" * 7}, ""), ({"worksheets/a_xml": b"<row/>" * 8}, "it has too many cells"),
+    ({"worksheets/a_xml": b"<x:row/>" + b"<c>" * 5, "worksheets/b_xml": b"<c>" * 4}, ""),
+    ({"worksheets/a_xml": b"<x:row/>" + b"<c>" * 5, "worksheets/b_xml": b"<c>" * 5}, "it has too many cells"),
+    ({"worksheets/a_bin": b"<c/>" * 6}, "it has too many cells"),
+    ({"a_bin": b" " + b"<" * 11}, "its part a.bin is too large"),
+    ({"worksheets/a_xml": ("<c/>" * 6).encode("utf-16")}, "it has too many cells"),
+    ({"worksheets/a_xml": ("<c/>" * 6).encode("utf-16-be")}, "it has too many cells"),
+    ({"worksheets/a_xml": ("\ufeff" + "<c/>" * 6).encode()}, "it has too many cells"),
+    ({"a_xml": b'<?xml version="1.0" encoding="utf-8"?><a>'}, ""), ({"a_xml": b"<?xml encoding='Windows-1252'?>"}, ""),
+    ({"a_xml": b'\xef\xbb\xbf<?xml encoding = "cp037"?>'}, "its part a.xml is too large"),
+    ({"a_xml": b"<a><!DOCTYPE a>"}, "its part a.xml is too large"),
+    ({"a_xml": b"<" + b" " * 39 + b"<"}, ""), ({"a_xml": b"<" + b" " * 80}, "its part a.xml is too large"),
+    *(({"a_xml": first + begin + b">" * count + end}, why) for begin, most, end in ((b"<!--", 33, b"-->"),
+      (b"<?", 36, b"?>")) for first in (b"", begin + end)
+      for count, why in ((most, ""), (most + 1, "its part a.xml is too large"))),
     ({"a_xml": b" " * 400}, ""), ({"a_xml": b" " * 401}, "its parts are too large"),
     ({"worksheets_xml": b"<" * 11}, "its part worksheets.xml is too large"),
     ({"mimetype": b""}, "it is of LibreOffice's own format")])
 def test_the_largest_parts_of_workbooks(parts: dict[str, bytes], why: str, monkeypatch: pytest.MonkeyPatch) -> None:
-    for name, most in (("MOST_TAGS", 10), ("MOST_STYLES", 8), ("MOST_IN_ROW", 5), ("MOST_CELLS", 10)):
+    for name, most in (("MOST_TAGS", 10), ("MOST_STYLES", 8), ("MOST_IN_ROW", 5), ("MOST_CELLS", 10), ("MOST_ROWS", 7),
+                       ("LONGEST", 40), ("MOST_UNPACKED", 400)):
         monkeypatch.setattr(_workbooks, name, most)
-    monkeypatch.setattr(_workbooks, "MOST_UNPACKED", 400)
     if why:
         with pytest.raises(ValueError, match=f"^{re.escape(why)}$"):
             _workbooks.check_parts(archive_of(**parts))

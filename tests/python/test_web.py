@@ -191,7 +191,8 @@ WRONG: list[tuple[str, Any]] = [
     ("plan", {"shop": None}), ("plan", {"order": None}), ("plan", {"shop": {**SHOP, "decimals": -1}}),
     ("plan", {"shop": {**SHOP, "decimals": 10}}), ("plan", {"held": 5}), ("plan", {"least": 2**53 + 1}), ("file", {}),
     ("file", {"kind": "../../etc/cron.d/x"}), ("search", {"seconds": -1}), ("search", {"held": 5}),
-    ("search", {"seed": 2**53 + 1})]
+    ("search", {"seed": 2**53 + 1}), ("plan", {"claimed": -1}), ("plan", {"kept": [ORDER]}), ("plan", {"kept": [{}]}),
+    ("plan", {"kept": [{"order": [1]}]}), ("read", {"rows": [], "options": {"setup": "a"}})]
 
 
 @pytest.mark.parametrize(("path", "more"), WRONG)
@@ -305,6 +306,19 @@ def test_rows_are_read_with_options(rows: Any, options: Any, shop: Any, rounded:
         == {**AS_READ, "shop": {**AS_READ["shop"], **shop}, "rounded": rounded}
 
 
+def test_columns_of_jobs_quantities_and_set_ups_are_chosen(client: FlaskClient) -> None:
+    """And the order of the machines. A job that skips a machine has no set-up there."""
+    rows = [[1, ["plant", "order", "pieces", "set-up", "saw [min/pc]", "drill [min/pc]"]],
+            [2, ["1000", "a", "2", "1", "3", "0"]], [3, ["1000", "b", "3", "2", "0", "2"]]]
+    options = {"jobs": "order", "quantity": "pieces", "setup": ["saw=set-up"]}
+    for machines, times in ((["drill", "saw"], [[0, 7], [6, 0]]), ([], [[7, 0], [0, 6]])):
+        got = answer(client, "/api/read", {"rows": rows, "options": {**options, "machines": machines}})
+        assert got["faults"] == [] and got["shop"]["times"] == times and got["shop"]["jobs"] == ["a", "b"]
+        assert got["shop"]["machines"] == (machines or ["saw", "drill"])
+    got = answer(client, "/api/read", {"rows": rows, "options": {**options, "quantity": ""}})
+    assert "say which column has the quantities (Column of quantities, above the table)" in str(got["faults"])
+
+
 @pytest.mark.parametrize("code", ["utf-8", "cp1252"])
 def test_a_file_is_read_with_its_rows(code: str, client: FlaskClient) -> None:
     table = TABLE.replace("box", "K\u00fcche")
@@ -333,7 +347,9 @@ def workbook(sheets: dict[str, list[list[Any]]]) -> bytes:
     return out.getvalue()
 
 
-OPTIONS = {"unit": ["h", "min"], "machines": ["saw,drill", "paint, saw", '"drill"', "oven"], "decimal": ["comma"],
+OPTIONS = {"jobs": ["saw", "order", "job"], "quantity": ["Paint", "pieces"],
+           "setup": ["drill", "saw=drill", "oven=saw"], "unit": ["h", "min"], "decimal": ["comma"],
+           "machines": ["saw,drill", "paint, saw", '"drill"', "oven"],
            "decimals": [0, 1], "allow-totals": [None], "begin": ["2026-11-30 06:00", datetime.datetime(2026, 12, 1)],
            "shift": ["06:00-14:00", "06:00-08:00,09:00-10:00", "fri:06:00-12:00", "6-14"], "days": ["mon-fri", "tue"],
            "closed": ["2026-12-01", "2026-12-02..2026-12-03"], "sheet": ["KW 49", "KW 50"], "schedule": ["x.csv"],
@@ -540,8 +556,8 @@ TABLE_OF_SHOP = hashlib.sha256(b"(4, 3)" + struct.pack("12I", *sum(SHOP["times"]
 # The response on the plan of docs/PLAN.md.
 TOLD: dict[str, Any] = {
     "makespan": "15.5 h", "span": 155, "bound": "15.5 h", "isOptimal": True, "above": 0.0, "gone": [], "new": [],
-    "isOther": False,
-    "end": "2026-12-01 13:30", "bottleneck": "paint", "moved": [],
+    "isOther": False, "claimed": "",
+    "end": "2026-12-01 13:30", "bottleneck": "paint", "kept": [],
     "heads": ["machine", "work", "utilisation %", "idle before", "idle between", "idle after", "critical %"],
     "machines": [["saw", "10.0", 64.5, "0.0", "0.0", "5.5", 6.5], ["drill", "9.5", 61.3, "1.0", "2.0", "3.0", 6.5],
                  ["paint", "13.5", 87.1, "2.0", "0.0", "0.0", 87.1]],
@@ -559,7 +575,6 @@ TOLD: dict[str, Any] = {
                           ["shelf", "6.0", "15.5"]]}),
     ({"language": "de"}, {"heads": ["Maschine", "Arbeit", "Auslastung %", "frei vorher", "frei dazwischen",
                                     "frei danach", "kritisch %"]}),
-    ({"kept": [["box", "chair", "shelf", "gone"], ["shelf", *ORDER[:3]]]}, {"moved": [[], ["shelf"]]}),
     ({"order": ["box", "stool", "chair", "shelf", "box"], "held": 1}, {"gone": ["stool"], "new": ["table"]}),
     ({"order": ["box", "chair", "shelf"], "held": 3, "least": 160, "digest": TABLE_OF_SHOP}, {
         "makespan": "16.5 h", "span": 165, "bound": "16.0 h", "isOptimal": False, "above": 3.1, "new": ["table"],
@@ -571,8 +586,8 @@ TOLD: dict[str, Any] = {
                  ["table", "2026-11-30 13:00", "2026-12-02 06:30"]]})])
 def test_a_plan_is_told(asks: dict[str, Any], told: dict[str, Any], client: FlaskClient) -> None:
     got = answer(client, "/api/plan", {**PLAN, **asks})
-    chart = got.pop("chart")
-    assert got == {**TOLD, **told}
+    chart, marks = got.pop("chart"), [row.pop() for row in got["jobs"]]
+    assert got == {**TOLD, **told} and len({*marks}) == 4
     assert ("<title>Week 49</title>" in chart) == ("title" not in asks)
     assert ("Auftrag suchen:" in chart) == ("language" in asks)
 
@@ -590,12 +605,59 @@ def test_what_was_proved_of_another_table_is_not_used(other: dict[str, Any], cli
              for job, times in zip(shop["jobs"], shop["times"])]
     digest = answer(client, "/api/read", {"rows": [[line, row] for line, row in enumerate(rows, 1)]})["digest"]
     body = {"shop": shop, "order": shop["jobs"][::-1], "digest": TABLE_OF_SHOP}
-    span = answer(client, "/api/plan", body)["span"]
+    first = answer(client, "/api/plan", body)
+    span, text, low = first["span"], first["makespan"], round(span_of(first["bound"]) * 10 ** digits)
+    assert low < span
     own = {**body, "digest": digest, "title": "Week 50"}
-    for asks, due in (({**body, "least": span}, (True, False)), ({**own, "least": span + 1}, (True, False)),
-                      ({**own, "least": 2**53}, (True, False)), ({**own, "least": span}, (False, True))):
+    for asks, due in (
+            ({**body, "least": span}, (True, False, "")), ({**own, "least": span + 1}, (True, False, "")),
+            ({**own, "least": 2**53}, (True, False, "")), ({**own, "least": span}, (False, True, "")),
+            # What only a file says.
+            ({**body, "claimed": span}, (True, False, "")), ({**own, "claimed": span + 1}, (True, False, "")),
+            ({**own, "claimed": span}, (False, False, text)), ({**own, "claimed": low}, (False, False, "")),
+            ({**own, "claimed": span, "least": span}, (False, True, "")),
+            ({**own, "claimed": span + 1, "least": span}, (True, True, "")),
+            ({**own, "claimed": span, "least": span + 1}, (True, False, text))):
         got = answer(client, "/api/plan", asks)
-        assert (got["isOther"], got["isOptimal"]) == due, asks
+        assert (got["isOther"], got["isOptimal"], got["claimed"]) == due, asks
+
+
+def span_of(text: str) -> float:
+    """The number of a time with its unit."""
+    return float(text.split()[0])
+
+
+def test_kept_orders_are_compared_on_the_table_as_it_is(client: FlaskClient) -> None:
+    """As if each were the plan, with the dates of the plan or its own ones. One without a job of the table isn't
+    compared, nor one with dates that can't be."""
+    kept = [{"order": ["chair", "shelf", "gone", "box"], "held": 1}, {"order": ["shelf", *ORDER[:3]], "held": 0},
+            {"order": ["chair", "box", "table", "shelf"], "held": 4, "calendar": {"begin": "2026-12-07"}},
+            {"order": ["gone"], "held": 0},
+            {"order": ORDER, "held": 0, "calendar": {"begin": "soon"}}, {"order": ["box"], "held": 1}]
+    # A bound of the plan is none of the others'.
+    got = answer(client, "/api/plan", {**PLAN, "kept": kept, "least": 155, "claimed": 155, "digest": TABLE_OF_SHOP})
+    assert [each and (each["gone"], sorted(each["new"]), each["moved"]) for each in got["kept"]] == [
+        (["gone"], ["table"], ["box"]), ([], [], ["shelf"]), ([], [], ["chair"]), None, None,
+        ([], ["chair", "shelf", "table"], [])]
+    for each, found in zip(kept, got["kept"]):
+        if found:
+            due = answer(client, "/api/plan", {**PLAN, "order": ORDER, **each})
+            assert found["ends"] == {name: end for name, _, end, _ in due["jobs"]}
+            assert all(found[name] == due[name] for name in ("makespan", "span", "end", "gone", "new"))
+    assert got["kept"][2]["end"].startswith("2026-12-0"), "its own dates"
+
+
+@pytest.mark.parametrize(("other", "changed"), [
+    ({"decimals": 2, "times": [[each * 10 for each in row] for row in SHOP["times"]]}, []),
+    ({"times": [*SHOP["times"][:3], [10, 10, 59]]}, ["box"]), ({"unit": "min"}, ORDER),
+    ({"machines": ["saw", "drill", "oven"]}, ORDER), ({"jobs": ["table", "chair", "shelf", "bin"]}, [])])
+def test_times_of_jobs_have_marks(other: dict[str, Any], changed: list[str], client: FlaskClient) -> None:
+    """They change with the times, and not with their decimals, other jobs or the order."""
+    def marks(shop: dict[str, Any], order: list[str]) -> dict[str, int]:
+        return {name: mark for name, *_, mark in answer(client, "/api/plan", {"shop": shop, "order": order})["jobs"]}
+
+    first, second = marks(SHOP, ORDER), marks({**SHOP, **other}, ORDER[::-1])
+    assert sorted(job for job in first if second.get(job, first[job]) != first[job]) == sorted(changed)
 
 
 @pytest.mark.parametrize(("english", "german"), [

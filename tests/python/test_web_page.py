@@ -10,7 +10,8 @@ from typing import Any
 
 import pytest
 from support.needs import require_module, tool
-from test_web import LONG, workbook
+from support.servers import free_port
+from test_web import LONG, TOKEN, workbook
 from test_web_server import Server, served
 
 require_module("selenium")
@@ -140,6 +141,8 @@ window.fetch = async (path, given = {}) => {
   try {
     const got = await ownFetch(path, given), content = await got.arrayBuffer();
     await wait;
+    // What comes late is taken a moment later.
+    if (wait) { busy += 1; ownWait(() => { busy -= 1; }, 100); }
     return new Response(content, got);
   } finally { busy -= !wait; }
 };
@@ -206,6 +209,11 @@ def flat(value: Any, name: str = "") -> dict[str, Any]:
     return {path: found for key, each in inner for path, found in flat(each, str(key)).items()} or {name: value}
 
 
+def text_of(value: Any, comma: str) -> str:
+    """A value of a request in a recorded line, which breaks at blanks."""
+    return json.dumps(value, ensure_ascii=False, separators=(comma, ":"))
+
+
 class Play:
     """Does the steps of a script. After :: is what the page asks (>), as its difference from the request before, and
     what is seen: how many lines less (-), and the new ones (+); or what a question shows (=). After a step that begins
@@ -253,7 +261,7 @@ class Play:
                 data = base64.b64decode(now["content"])
                 now["content"] = next((name for name, each in self.files.items() if each == data), "pasted")
             changed = {path: value for path, value in now.items() if before.get(path, ...) != value}
-            texts = [f"{path}={json.dumps(value, ensure_ascii=False, separators=(',', ':'))}"
+            texts = [f"{path}={text_of(value, ', ' if path == 'kept' else ',')}"
                      for path, value in sorted(changed.items()) if body]
             if body:
                 texts += [f"-{path}" for path in before if path not in now]
@@ -292,6 +300,35 @@ def test_each_step_in_german(page: Page) -> None:
     finally:
         page.browser.execute_cdp_cmd("Page.removeScriptToEvaluateOnNewDocument", watch)
     assert [" 422 " in each for each in page.logged()] == [True] * 4, "other jobs, and plans without a beginning"
+
+
+@contextlib.contextmanager
+def week(folder: pathlib.Path) -> Iterator[Play]:
+    """A browser that plays a week. Its first server can be stopped and started again, and the second one is another
+    machine's, with another token. A file has what the page has saved."""
+    (folder / "token").write_text(f"{TOKEN}\n")
+    (folder / "token").chmod(0o600)
+    words, port = ("--token-file", str(folder / "token")), free_port()
+    with contextlib.ExitStack() as first, browser_in(folder) as browser, served() as second:
+        browser.execute_cdp_cmd("Page.addScriptToEvaluateOnNewDocument", {"source": WATCH})
+        play = Play(page := Page(browser, first.enter_context(served(*words, port=port)), folder), {})
+
+        def save(name: str) -> None:
+            play.files[name] = play.run("return desk.steps.toFile(desk.state.doc)").encode()
+
+        def move() -> None:
+            page.server = second
+            page.open("de")
+
+        play.verbs |= {"stop": first.close, "start": lambda: first.enter_context(served(*words, port=port)),
+                       "save": save, "move": move}
+        yield play
+
+
+def test_a_week_over_a_restart_and_two_servers(tmp_path: pathlib.Path) -> None:
+    """Saved on Monday evening, and opened on Tuesday on another server: recorded, and read by a person."""
+    with week(tmp_path) as play:
+        play.play(pathlib.Path(__file__).with_name("week_in_german.txt").read_text("utf-8"))
 
 
 # Looks at a list of many rows as it is scrolled, and at what gets the focus there.

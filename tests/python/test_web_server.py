@@ -1,6 +1,7 @@
 """The program pfs-web: its command line, its limits as a server, its end, and its use with a proxy."""
 import contextlib
 import http.client
+import itertools
 import json
 import pathlib
 import re
@@ -124,16 +125,55 @@ def test_what_is_too_large_is_refused_before_it_is_read(server: Server) -> None:
         assert time.monotonic() - begun < 1
 
 
-def test_requests_that_are_half_sent_stop_nobody(server: Server) -> None:
-    """Twenty of them, more than there are threads. Each connection is closed after a while."""
-    head = f"POST /api/read HTTP/1.1\r\nHost: 127.0.0.1:{server.port}\r\nContent-Length: 1000\r\n\r\nabc"
-    server.answer("/api/read", {"rows": []})
-    with contextlib.ExitStack() as lines:
-        for _ in range(20):
-            lines.enter_context(socket.create_connection(("127.0.0.1", server.port))).sendall(head.encode())
-        begun = time.monotonic()
-        assert server.ask("/")[0] == 200 and server.answer("/api/read", {"rows": []})["faults"]
-        assert time.monotonic() - begun < 8
+# What slow connections send first, and then every few seconds: parts of a head and of a body, and no request at all.
+SLOW = [(b"GET / HTTP/1.1\r\nHost: a\r\nX-A: ", b"a"), (b"POST / HTTP/1.1\r\nContent-Length: 999\r\n\r\n", b"a"),
+        (b"", b"\r\n")]
+
+
+def is_open(line: socket.socket) -> bool:
+    """Whether the server hasn't closed a connection."""
+    try:
+        return line.recv(1000) != b""
+    except BlockingIOError:
+        return True
+    except ConnectionError:
+        return False
+
+
+@pytest.mark.seconds(40)
+def test_slow_connections_keep_nobody_away() -> None:
+    """200 of one address and 200 of twenty, which never end their requests: each is closed, and others are answered."""
+    with served() as found, contextlib.ExitStack() as lines:
+        planner = lines.enter_context(contextlib.closing(http.client.HTTPConnection("127.0.0.1", found.port)))
+
+        def answered() -> socket.socket:
+            begun = time.monotonic()
+            planner.request("GET", "/")
+            assert planner.getresponse().read().startswith(b"<!DOCTYPE") and found.ask("/")[0] == 200
+            assert time.monotonic() - begun < 2
+            return planner.sock
+
+        def slow(address: str) -> socket.socket:
+            line = lines.enter_context(socket.create_connection(("127.0.0.1", found.port), 9, (address, 0)))
+            line.setblocking(False)
+            return line
+
+        own, begun = answered(), time.monotonic()
+        some = [slow("127.0.0.2") for _ in range(200)]
+        wait_until(lambda: sum(map(is_open, some)) == 32, "an address has as many as it may")
+        some += [slow(f"127.0.0.{3 + at % 20}") for at in range(200)]
+        wait_until(lambda: sum(map(is_open, some)) <= 128, "the others are closed")
+        for line, (first, _) in zip(some, itertools.cycle(SLOW)):
+            with contextlib.suppress(ConnectionError):
+                line.sendall(first)
+        while any(map(is_open, some)):
+            assert time.monotonic() - begun < 40, "they are closed"
+            for line, (_, more) in zip(some, itertools.cycle(SLOW)):
+                with contextlib.suppress(ConnectionError):
+                    line.sendall(more)
+            assert answered() is own, "what is answered stays open"
+            time.sleep(2)
+        assert time.monotonic() - begun > 29, "a request may take its time"
 
 
 # Its end

@@ -19,8 +19,9 @@ from test_web import TOKEN
 from test_web_page import Page, browser_in
 from test_web_server import Server, served
 
-pytestmark = [pytest.mark.seconds(70), pytest.mark.xdist_group("state")]
-Times: TypeAlias = dict[str, tuple[int, ...]]
+pytestmark = [pytest.mark.seconds(110), pytest.mark.timeout(900), pytest.mark.xdist_group("state")]
+# The times of each job, in an order, each with its machine.
+Times: TypeAlias = dict[str, tuple[tuple[str, int], ...]]
 DATES = ["", "2026-11-30T06:00", "2026-12-01T07:30"]
 # Each request fails in one of three ways, or none does.
 FAIL = """const ownFetch = window.fetch, busy = {error: "the server is busy: try again in a minute"};
@@ -46,12 +47,12 @@ return {rows: rows("table").map(row => [...row.querySelectorAll("td input")].map
 ENDS = re.compile(r"(\d+) min(?:, finished ([-\d]+ [\d:]+))?; (?:(optimal)|at most .*no order is below (\d+) min)")
 
 
-def ends_of(times: list[tuple[int, ...]]) -> list[int]:
+def ends_of(times: list[tuple[tuple[str, int], ...]]) -> list[int]:
     """When each job of an order ends: with its last operation that takes time."""
     free, found = [0] * len(times[0]), list[int]()
     for row in times:
         at = end = 0
-        for machine, each in enumerate(row):
+        for machine, (_, each) in enumerate(row):
             at = free[machine] = max(at, free[machine]) + each
             end = at if each else end
         found.append(end)
@@ -73,10 +74,20 @@ def times_in(seen: dict[str, Any]) -> Times | None:
             or len({head[at] for at in columns}) < len(columns) \
             or not all(re.fullmatch(r"\d+(\.0)?", cell) for row in cells for cell in row):
         return None
-    return {name: tuple(int(Decimal(cell)) for cell in row) for name, row in zip(names, cells)}
+    return {name: tuple((head[at], int(Decimal(cell))) for at, cell in zip(columns, row))
+            for name, row in zip(names, cells)}
 
 
-def check(seen: dict[str, Any], kept: dict[str, tuple[Times, str]]) -> None:
+def compared(kept: Times, now: Times) -> tuple[int, str]:
+    """The makespan of the jobs of a kept plan that are here, and how they differ."""
+    differing = (("left out, as the table lacks them:", kept.keys() - now.keys()),
+                 ("with other times:", {job for job in kept.keys() & now.keys() if kept[job] != now[job]}),
+                 ("new, and inserted where they are best:", now.keys() - kept.keys()))
+    notes = [f"{text} {', '.join(sorted(jobs))}" for text, jobs in differing if jobs]
+    return max(ends_of([now[job] for job in kept if job in now])), "; ".join(notes)
+
+
+def check(seen: dict[str, Any], kept: dict[str, Times]) -> None:
     """A plan that is shown is of the table that is shown."""
     times = times_in(seen)
     assert times is not None, "a plan of what is no table"
@@ -93,13 +104,21 @@ def check(seen: dict[str, Any], kept: dict[str, tuple[Times, str]]) -> None:
         due = [f"{begin + datetime.timedelta(minutes=end):%Y-%m-%d %H:%M}" for end in (max(ends), *ends)]
         assert told[2] == due[0]
     # A job without any time has no own end.
-    assert [end for name, end, _ in seen["order"] if any(times[name])] == \
-        [end for name, end in zip(names, due[1:] if seen["begin"] else map(str, ends)) if any(times[name])]
+    busy = {name for name, row in times.items() if any(time for _, time in row)}
+    assert [end for name, end, _ in seen["order"] if name in busy] == \
+        [end for name, end in zip(names, due[1:] if seen["begin"] else map(str, ends)) if name in busy]
     held = [is_held for _, _, is_held in seen["order"]]
     assert held == sorted(held, reverse=True), "the first ones are held"
-    for title, makespan, *_ in seen["plans"]:
-        if makespan != "of another table":
-            assert (times, makespan) == kept[title], "a kept plan of another table is compared"
+    for title, makespan, _, _, note, _ in seen["plans"]:
+        is_other = kept[title].keys().isdisjoint(times)
+        assert (makespan == "of another table") == is_other, "a kept plan with a job of the table is compared"
+        if not is_other:
+            least, differing = compared(kept[title], times)
+            parts = (part.partition(": ") for part in note.split("; "))
+            assert "; ".join(f"{text}: {', '.join(sorted(jobs.split(', ')))}" for text, _, jobs in parts if jobs) \
+                == differing
+            found = int(makespan.removesuffix(" min"))
+            assert found >= least if "new" in differing else found == least
     assert all(name in seen["chart"] for name in names)
 
 
@@ -109,7 +128,7 @@ class Week:
     def __init__(self, page: Page, seed: int, serve: Callable[[], Any]) -> None:
         self.page, self.random, self.serve, self.up = page, random.Random(seed), serve, contextlib.ExitStack()
         self.seen, self.done = dict[str, Any](), Counter[str]()
-        self.kept, self.saved = dict[str, tuple[Times, str]](), list[str]()
+        self.kept, self.saved = dict[str, Times](), list[str]()
         self.run = page.browser.execute_script
         # How often each is done.
         self.steps: dict[Callable[[], None], int] = {
@@ -129,9 +148,9 @@ class Week:
         act, = self.random.choices([*self.steps], [*self.steps.values()])
         self.done[act.__name__] += 1
         act()
-        moment = self.random.choice([0.01, 0.1, 0.1, 1])
+        moment = self.random.choice([0.01, 0.03, 0.1, 0.5])
         time.sleep(moment)
-        self.look(moment == 1)
+        self.look(moment == 0.5)
         if self.random.random() < 0.3:
             self.start()
             self.page.wait(lambda: self.look()["isQuiet"], "all is told")
@@ -191,7 +210,7 @@ class Week:
         self.click(self.random.choice(["#totals", *(f"[data-key='{at},machine']" for at in (2, 3, 4))]))
 
     def plan(self) -> None:
-        self.run("document.querySelector('#seconds').value = '2'")
+        self.run("const one = document.querySelector('#seconds'); one.options[0].value = one.value = '1'")
         self.click("#plan:enabled")
 
     def move(self) -> None:
@@ -220,7 +239,7 @@ class Week:
         self.page.wait(lambda: self.look()["isQuiet"], "all is told")
         times = times_in(self.look())
         if self.seen["three"] and times:
-            self.kept[title] = times, self.seen["ends"].partition(" min")[0] + " min"
+            self.kept[title] = {name: times[name] for name, _, _ in self.seen["order"]}
             self.click("#keep")
             self.page.wait(lambda: title in [each[0] for each in self.look()["plans"]], "it is kept")
 
@@ -235,8 +254,11 @@ class Week:
         self.saved.append(self.run("return desk.steps.toFile(desk.state.doc)"))
 
     def load(self) -> None:
+        """Bounds of a file may be wrong: they are only said to be those of the file."""
         if self.saved:
-            self.page.drop("week.json", self.random.choice(self.saved).encode())
+            doc = json.loads(self.random.choice(self.saved))
+            doc["proved"] = {digest: bound + self.random.randint(0, 2) for digest, bound in doc["proved"].items()}
+            self.page.drop("week.json", json.dumps(doc).encode())
 
     # What happens to the server
 
@@ -266,6 +288,16 @@ def folder(tmp_path: pathlib.Path) -> pathlib.Path:
     return tmp_path
 
 
+def test_each_step_does_what_it_says(folder: pathlib.Path) -> None:
+    """20,000 steps of the document alone, with answers that come late or never."""
+    script = pathlib.Path(__file__).with_name("page_steps.js").read_text("utf-8")
+    with browser_in(folder) as browser, served() as server:
+        Page(browser, server, folder).open()
+        browser.set_script_timeout(60)
+        for seed in range(4):
+            assert browser.execute_async_script(f"(async () => {{ {script} }})()", seed, 5_000) == ""
+
+
 @pytest.mark.parametrize("seed", [1])
 def test_what_is_shown_is_of_the_table_on_the_screen(seed: int, folder: pathlib.Path) -> None:
     """In a random week with failures, restarts and reloads, with what is saved, opened, kept and taken back."""
@@ -285,10 +317,10 @@ def test_what_is_shown_is_of_the_table_on_the_screen(seed: int, folder: pathlib.
         week.open()
         page.wait(lambda: week.look()["two"])
         week.plan()
-        for at in range(60):
+        for at in range(200):
             try:
                 week.step()
             except Exception as error:
                 error.add_note(f"seed {seed}, step {at}: {json.dumps({**week.seen, 'chart': ''})}")
                 raise
-    assert week.done["shown"] > 30, dict(week.done)
+    assert week.done["shown"] > 100, dict(week.done)

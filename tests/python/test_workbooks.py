@@ -174,6 +174,10 @@ NO_ROWS, WIDE = "<sheetData.*</sheetData>|<sheetData ?/>", '<row r="{0}"><c r="X
 LARGE = {
     "cells in the last column": ("sheet1.xml", NO_ROWS, WIDE, 4_000, "it has too many cells"),
     "rows": ("sheet1.xml", NO_ROWS, '<row r="1048577"><c><v>1</v></c></row>', 1, "it has too many cells"),
+    "columns": ("sheet1.xml", "<sheetData", '<col min="1" max="16384" hidden="1"/>', 16_000, "it has too many cells"),
+    "empty rows": ("sheet1.xml", NO_ROWS, "<row/>", 2_000_000, "it has too many cells"),
+    "a comment": ("sheet1.xml", "</worksheet>", "<!--%s-->" % ("a" * 200_000_000), 1,
+                  "its part xl/worksheets/sheet1.xml is too large"),
     "styles": ("styles.xml", "</cellXfs>", "<xf/>", 400_000, "its part xl/styles.xml is too large")}
 
 

@@ -28,10 +28,16 @@ TWO_DAYS = datetime.date(1900, 2, 28)
 MOST_ROWS = 1_048_576
 # The most bytes of all parts.
 MOST_UNPACKED = 2**28
-# The most cells of all sheets, of all rows with the empty ones before their last ones, and of one row. The most tags of
-# another part, and of the styles, of which openpyxl takes 40 microseconds for each.
-MOST_CELLS, MOST_IN_ROW, MOST_TAGS, MOST_STYLES = 3_000_000, 16_384, 500_000, 100_000
-TAG = re.compile(rb"<(?:\w+:)?(c|row)[\s/>]")
+# The most cells of all sheets, of all rows with the empty ones before their last ones, and of one row; rows and formats
+# of columns count as cells. The most tags of another part, of a sheet beside those of its cells, and of the styles, of
+# which openpyxl takes 40 microseconds for each. The most tags of a cell.
+MOST_CELLS, MOST_IN_ROW, MOST_TAGS, MOST_STYLES, IN_CELL = 3_000_000, 16_384, 500_000, 100_000, 8
+TAG = re.compile(rb"<(?:\w+:)?(c|col|row)[\s/>]")
+# How a part begins that the parser reads, and one in whose encoding tags have other bytes.
+XML = re.compile(rb"(?:\xef\xbb\xbf|\xff\xfe|\xfe\xff)?[\s\0]*<")
+ENCODED = re.compile(rb"[^<]*<\?xml[^>]*encoding\s*=\s*[\"'](?!(?i:utf|us-ascii|iso-8859|windows))")
+# The most bytes of a tag or a comment, of which the parser takes the square.
+LONGEST = 2**18
 FORMULA = re.compile(rb"<(?:\w+:)?f[\s/>]")
 MERGED = re.compile(rb'<(?:\w+:)?mergeCell\s+ref="([A-Z]{1,3}[0-9]{1,7}:[A-Z]{1,3}[0-9]{1,7})"')
 SEPARATED = re.compile(r"[0-9]+(?:[.,][0-9]+)+", re.ASCII)
@@ -137,18 +143,46 @@ def check_parts(archive: zipfile.ZipFile) -> None:
     if sum(part.file_size for part in archive.infolist()) > MOST_UNPACKED:
         raise ValueError("its parts are too large")
     cells = 0
-    for name in archive.namelist():
-        if not name.lower().endswith((".xml", ".rels")):
-            continue
-        content, in_row = archive.read(name), 0
-        most = MOST_STYLES if name.endswith("styles.xml") else MOST_TAGS
-        if "worksheets/" not in name and content.count(b"<") > most:
-            raise ValueError(f"its part {name} is too large")
-        for tag in TAG.finditer(content):
-            in_row = in_row + 1 if tag[1] == b"c" else 0
-            cells += tag[1] == b"c"
-            if in_row > MOST_IN_ROW or cells > MOST_CELLS:
-                raise ValueError("it has too many cells")
+    for part in archive.infolist():
+        content, name = archive.read(part), part.filename
+        if XML.match(content):
+            # UTF-16 has a zero beside each letter of a tag.
+            content = content.replace(b"\0", b"") if b"\0" in content[:4] else content
+            most = MOST_STYLES if name.endswith("styles.xml") else MOST_TAGS
+            is_sheet = "worksheets/" in name and not is_large(content, most + IN_CELL * MOST_CELLS)
+            own = cells_in(content, MOST_CELLS - cells) if is_sheet else 0
+            if is_large(content, most + IN_CELL * own):
+                raise ValueError(f"its part {name} is too large")
+            cells += own
+
+
+def cells_in(sheet: bytes, most: int) -> int:
+    """Return the number of cells, rows and formats of columns of a sheet, or raise an error if there are more."""
+    cells = rows = same = 0
+    before = b""
+    for tag in TAG.finditer(sheet):
+        same = same + 1 if tag[1] == before else 1
+        before, cells, rows = tag[1], cells + 1, rows + (tag[1] == b"row")
+        if cells > most or rows > MOST_ROWS or same > MOST_IN_ROW and before != b"row":
+            raise ValueError("it has too many cells")
+    return cells
+
+
+def is_large(content: bytes, most: int) -> bool:
+    """Whether a part has more tags, or a tag or a comment that is too long for the parser. A document type, which
+    workbooks lack, may have such ones, and an encoding may hide them."""
+    if content.count(b"<") > most or b"<!DOCTYPE" in content or ENCODED.match(content):
+        return True
+    if any(content.find(b"<", at, at + LONGEST) < 0 for at in range(0, len(content) - LONGEST, LONGEST)):
+        return True
+    for begin, end in ((b"<!--", b"-->"), (b"<?", b"?>")):
+        at = content.find(begin)
+        while at >= 0:
+            at = content.find(end, at + len(begin), at + LONGEST)
+            if at < 0:
+                return True
+            at = content.find(begin, at)
+    return False
 
 
 def formulas_in(sheet: bytes) -> Iterator[tuple[str, str | None]]:
@@ -165,12 +199,17 @@ def hidden_in(sheet: bytes) -> tuple[set[int], set[int]]:
     """Return the numbers of the rows and of the columns that are hidden."""
     rows: set[int] = set()
     columns: set[int] = set()
+    count = 0
     for _, tag in ElementTree.iterparse(io.BytesIO(sheet)) if b"hidden=" in sheet else ():
         if tag.get("hidden") in ("1", "true"):
             if tag.tag.endswith("}row"):
                 rows.add(int(tag.get("r", 0)))
             elif tag.tag.endswith("}col"):
-                columns.update(range(int(tag.get("min", 1)), min(int(tag.get("max", 0)), MOST_IN_ROW) + 1))
+                own = range(int(tag.get("min", 1)), min(int(tag.get("max", 0)), MOST_IN_ROW) + 1)
+                columns.update(own)
+                count += len(own)
+                if count > MOST_IN_ROW:
+                    raise ValueError("it has too many cells")
         tag.clear()
     return rows, columns
 

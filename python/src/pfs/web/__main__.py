@@ -60,6 +60,7 @@ def serve(given: argparse.Namespace) -> int:
     optional("flask", "pfs-web")
     waitress = optional("waitress", "pfs-web")
     from pfs.web.app import MOST_BODY, made
+    from pfs.web.connections import LONGEST, PACE, Connection
     from pfs.web.searches import Searches
     logging.basicConfig(level=logging.INFO, format="%(asctime)s %(message)s")
     searches, token = Searches(given.searches), token_in(given.token_file)
@@ -67,10 +68,11 @@ def serve(given: argparse.Namespace) -> int:
     # A proxy passes names on without its port.
     hosts = {name.lower() for name in (*given.name, *(f"{name}:{given.port}" for name in own))}
     proxy = {"trusted_proxy": "127.0.0.1", "trusted_proxy_headers": {"x-forwarded-for"}} if given.proxy else {}
+    waitress.server.BaseWSGIServer.channel_class = Connection
     server = waitress.create_server(
         made(hosts, token, searches), host=given.host, port=given.port, threads=16, ident=None, connection_limit=200,
-        channel_timeout=30, max_request_body_size=MOST_BODY, max_request_header_size=16_384,
-        clear_untrusted_proxy_headers=True, **proxy)
+        channel_timeout=LONGEST, cleanup_interval=PACE, max_request_body_size=MOST_BODY,
+        max_request_header_size=16_384, clear_untrusted_proxy_headers=True, **proxy)
     signal.signal(signal.SIGTERM, signal.default_int_handler)
     address = f"http://{own[0]}:{given.port}/#{token if given.token_file is None else ''}"
     print(address if given.token_file is None else f"{address} and the token in {given.token_file}", flush=True)

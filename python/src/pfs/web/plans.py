@@ -3,10 +3,12 @@ are called apart (`pfs.web.apart`)."""
 from __future__ import annotations
 
 import base64
+import contextlib
 import pathlib
 import re
 import zipfile
 from typing import Any
+from zlib import crc32
 
 from pfs.base.faults import TableFault
 from pfs.base.languages import words_of
@@ -24,6 +26,9 @@ from pfs.web.apart import Wrong
 # The most times of a table, faults that are listed, and letters of a text.
 MOST_TIMES, MOST_FAULTS, MOST_LETTERS = 400_000, 2_000, 10_000
 DAY_OF = {"mo": "mon", "di": "tue", "mi": "wed", "do": "thu", "fr": "fri", "sa": "sat", "so": "sun"}
+# The options of a table that have a field on the page, with what is usual.
+TYPED: dict[str, Any] = {"unit": "", "sheet": None, "decimals": None, "decimal": "", "machines": [], "jobs": "",
+                         "quantity": "", "setup": []}
 OTHER_FORM = Wrong("the request has another form than those of this server's page", 400)
 
 
@@ -87,13 +92,13 @@ def set_in(book: Workbook) -> dict[str, Any]:
     """What the sheet `pfs` of a workbook sets, as for `pfs-plan`, and the options that have no field on the page."""
     found = options_in(book)
     last = {name: OPTIONS[name].value(given) for name, given in found.items()}
-    typed = {**{name: last.get(name) for name in ("sheet", "decimals")}, "unit": last.get("unit", ""),
-             "totals": last.get("allow-totals", False), "decimal": DECIMAL_SIGNS.get(last.get("decimal", ""), ""),
-             "machines": last.get("machines", [])}
+    typed = {name: last.get(name, usual) for name, usual in TYPED.items()}
+    typed |= {"totals": last.get("allow-totals", False), "decimal": DECIMAL_SIGNS.get(typed["decimal"], ""),
+              "setup": found.get("setup", [])}
     begin = text_of(begin_of(last["begin"]), 0).replace(" ", "T") if "begin" in last else ""
     dates = {"begin": begin, "shifts": "\n".join(found.get("shift", []))}
     dates |= {name: ",".join(found.get(name, [])) for name in ("days", "closed")}
-    unused = found.keys() - {*"unit sheet decimals decimal machines allow-totals begin shift days closed".split()}
+    unused = found.keys() - {*TYPED, "allow-totals", "begin", "shift", "days", "closed"}
     return {"typed": typed, "calendar": dates, "unused": sorted(unused)} if found else {}
 
 
@@ -102,14 +107,17 @@ def shop_of(rows: list[tuple[int, list[str]]], options: dict[str, Any]) -> dict[
     marked = field(options, "texts", list)
     if marked and not all(type(each) is list and [*map(type, each)] == [int, int] for each in marked):
         raise OTHER_FORM
-    machines, delimiter = texts(field(options, "machines", list, [])), field(options, "delimiter", str, ",")
-    if delimiter not in (",", ";", "\t"):
+    marks = None if marked is None else {(line, column) for line, column in marked}
+    machines, setups = (texts(field(options, name, list, [])) for name in ("machines", "setup"))
+    delimiter, jobs, quantity, unit, decimal = (
+        field(options, name, str, "") for name in ("delimiter", "jobs", "quantity", "unit", "decimal"))
+    if delimiter not in ("", ",", ";", "\t"):
         raise OTHER_FORM
     try:
-        shop, rounded = tables.table_in(
-            lambda: rows, "table", delimiter, field(options, "unit", str, ""), field(options, "decimal", str) or None,
-            field(options, "totals", bool, False), machines, field(options, "decimals", int),
-            None if marked is None else {(line, column) for line, column in marked})
+        shop, rounded = tables.shop_in(
+            tables.Rows("table", lambda: rows, delimiter or ",", marks, bool(machines), []), unit, decimal or None,
+            field(options, "totals", bool, False), machines, field(options, "decimals", int), quantity or None, setups,
+            jobs or None)
     except TableFault as fault:
         found = [{"line": each.line, "column": each.column, "text": as_controls(each.text)}
                  for each in (fault, *fault.others)]
@@ -170,11 +178,16 @@ def placed(plan: Plan, names: list[str], held: int) -> dict[str, list[str]]:
 
 def plan_from(given: dict[str, Any]) -> tuple[Plan, dict[str, Any]]:
     """The plan of a request, and what is said of it: the names of jobs that are gone or new, and whether the bound that
-    the page remembers is of another table. One above a makespan is of another one."""
-    plan, least = Plan(shop := shop_from(given)), field(given, "least", int, 0, 2**53)
+    the page remembers, or that of its file, is of another table. One above a makespan is of another one."""
+    plan, digest = Plan(shop := shop_from(given)), field(given, "digest", str, "")
+    least, claimed = (field(given, name, int, 0, 2**53) for name in ("least", "claimed"))
     said: dict[str, Any] = placed(plan, texts(given.get("order")), field(given, "held", int, 0, shop.jobs))
-    is_known = least <= plan.schedule.makespan and plan.know(least, field(given, "digest", str, ""))
-    said["isOther"] = not is_known
+    most = plan.schedule.makespan
+    known = {number: number <= most and plan.know(number, digest) for number in (claimed, least)}
+    # What only a file says isn't proved here.
+    plan.know(known[least] * least, digest)
+    said |= {"isOther": not all(known.values()),
+             "claimed": plan.span(claimed) if known[claimed] and claimed > plan.best.bound else ""}
     # A line has a shift; a comma is between days and dates.
     begin, shifts, days, closed = (plain(field(field(given, "calendar", dict, {}), name, str, "").strip())
                                    for name in ("begin", "shifts", "days", "closed"))
@@ -196,13 +209,37 @@ def plain(text: str) -> str:
 def told(given: dict[str, Any], folder: str) -> dict[str, Any]:
     """What a plan comes to, with its chart, and the jobs that have moved from orders that were kept."""
     (plan, said), chart = plan_from(given), pathlib.Path(folder, "chart.html")
-    jobs, (heads, *machines), (_, *end) = plan.jobs(), plan.machines(), plan.ends()
+    jobs, (heads, *machines) = plan.jobs(), plan.machines()
     plan.chart(str(chart), plan.shop.name or True)
     return {**quality(plan), **said,
-            "end": end[0].removeprefix("end ") if end else "", "bottleneck": plan.report.bottleneck,
+            "end": end_of(plan), "bottleneck": plan.report.bottleneck,
             "machines": machines, "heads": [*map(words_of(plan.language), heads)],
-            "moved": [moved([name for name, *_ in jobs], texts(each)) for each in field(given, "kept", list, [])],
-            "jobs": jobs, "chart": chart.read_text("utf-8")}
+            "kept": [compared(given, each, [name for name, *_ in jobs]) for each in field(given, "kept", list, [])],
+            "jobs": [[*row, mark] for row, mark in zip(jobs, marks(plan))], "chart": chart.read_text("utf-8")}
+
+
+def marks(plan: Plan) -> list[int]:
+    """Numbers that tell the times of jobs from other times, in the order of the plan."""
+    times = plan.shop.times[plan.order] / 10**plan.shop.decimals
+    return [crc32(repr((plan.shop.machine_names, plan.shop.unit, row)).encode()) for row in times.tolist()]
+
+
+def compared(given: dict[str, Any], kept: Any, names: list[str]) -> dict[str, Any] | None:
+    """What an order that was kept comes to with the table of the request, with its own dates or those of the request,
+    and the jobs that have moved from it. None if no job of it is in the table, or its dates are wrong."""
+    kept = field({"kept": kept}, "kept", dict, {})
+    if {*names}.isdisjoint(texts(kept.get("order"))):
+        return None
+    with contextlib.suppress(ValueError):
+        plan, said = plan_from({**given, "claimed": 0, **kept})
+        return {**quality(plan), "gone": said["gone"], "new": said["new"], "end": end_of(plan),
+                "ends": {name: end for name, _, end in plan.jobs()}, "moved": moved(names, kept["order"])}
+    return None
+
+
+def end_of(plan: Plan) -> str:
+    """When it is finished, if there are dates."""
+    return "".join(end.removeprefix("end ") for end in plan.ends()[1:])
 
 
 def quality(plan: Plan) -> dict[str, Any]:

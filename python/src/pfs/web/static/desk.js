@@ -48,6 +48,8 @@ export function change(step) {
   drawSoon();
   work();
 }
+// What a field does when its value changes: a step that gets the value, and whether it is ticked.
+export const changing = step => ({target: {value, checked}}) => change(now => step(now, value, checked));
 // Why the server hasn't said what is missing.
 export const trouble = () => now && now.trouble;
 function work() {

@@ -7,11 +7,7 @@ import {download, drawResult} from "./result.js";
 import {enough, follow, search} from "./search.js";
 import {drawTable} from "./table.js";
 
-const {change, doing, say} = desk;
-const STEPS = {edit: tr("cell changed"), row: tr("row changed"), machines: tr("machines chosen"),
-               options: tr("options chosen"), file: tr("file opened"), rest: tr("rest planned"),
-               show: tr("plan shown"), search: tr("plan searched"), order: tr("order taken")};
-
+const {change, changing, doing, say} = desk;
 function draw() {
   const {doc, before, search: running} = desk.state, trouble = desk.trouble();
   drawTable();
@@ -23,7 +19,7 @@ function draw() {
   byId("message").hidden = !byId("message").textContent;
   byId("save").hidden = !doc.typed;
   byId("back").hidden = !before;
-  byId("back").textContent = before ? `${tr("Back")}: ${STEPS[before.what] || before.what}` : "";
+  byId("back").textContent = before ? `${tr("Back")}: ${tr(before.what)}` : "";
   drawSearch(running);
 }
 function drawSearch(running) {
@@ -82,14 +78,12 @@ window.addEventListener("paste", event => {
 });
 
 // Options, dates and the search
-byId("options").onchange = doing(({target}) => {
-  const {id} = target;
-  if (id === "sheet") change(now => steps.sheetOf(now, target.value));
-  else if (id) change(now => steps.typedAs(now, "options", {[id]: id === "totals" ? target.checked : target.value}));
-});
-byId("dates").onchange = doing(({target}) => change(now => steps.changed(now, {
-  calendar: {...now.doc.calendar, [target.id]: target.value}})));
-byId("title").onchange = doing(({target}) => change(now => steps.changed(now, {title: target.value})));
+for (const each of document.querySelectorAll("#options [id], #dates [id]"))
+  each.onchange = changing((now, value, isOn) => each.id === "sheet" ? steps.sheetOf(now, value)
+    : each.id in now.doc.calendar ? steps.changed(now, {calendar: {...now.doc.calendar, [each.id]: value}})
+      : steps.typedAs(now, "options chosen", {[each.id]: each.id === "totals" ? isOn : each.id !== "setup"
+        ? value.trim() : value.split(",").map(name => name.trim()).filter(Boolean)}));
+byId("title").onchange = changing((now, value) => steps.changed(now, {title: value}));
 byId("plan").onclick = doing(() => search(Number(byId("seconds").value)));
 byId("end").onclick = doing(enough);
 

@@ -1,6 +1,6 @@
 // Draws the plan, and changes it.
-import {ask, change, doing, settled, state, trouble} from "./desk.js";
-import {aboutPlan, changed, held, isRead, isShown, keptHere, moved, movedFirst, planForgotten, planKept, planOf,
+import {ask, change, changing, doing, settled, state, trouble} from "./desk.js";
+import {aboutPlan, changed, held, isRead, isShown, keptNow, moved, movedFirst, planForgotten, planKept, planOf,
         planShown, planned, restPlanned, shopOf, toldOf} from "./document.js";
 import {tr} from "./german.js";
 import {byId, control, listIn, made, rowOf} from "./lists.js";
@@ -34,13 +34,17 @@ function nowOf(now) {
   const {end, jobs} = toldOf(now);
   return now.doc.now || end && jobs[0][1].replace(" ", "T").slice(0, 16);
 }
+// How the jobs of a plan differ from those of its table.
+function differing(plan) {
+  return [[plan.gone, tr("left out, as the table lacks them:")], [plan.other, tr("with other times:")],
+    [plan.new, tr("new, and inserted where they are best:")], [plan.done, tr("finished and left out:")]]
+    .filter(([names]) => names?.length)
+    .map(([names, text]) => `${text} ${names.slice(0, 20).join(", ")}${names.length > 20 ? ", .." : ""}`);
+}
 function drawTold() {
-  const others = [[told.gone, tr("left out, as the table lacks them:")],
-    [told.new, tr("new, and inserted where they are best:")], [told.done, tr("finished and left out:")]]
-    .filter(([names]) => names?.length);
   byId("ends").textContent = [told.makespan + (told.end && `, ${tr("finished")} ${told.end}`), told.isOptimal
     ? tr("optimal: no order is shorter") : tr("at most {above} % above the shortest: no order is below {bound}", told),
-    ...others.map(([names, text]) => `${text} ${names.join(", ")}`),
+    ...told.claimed ? [tr("by the file, no order is below {claimed}", told)] : [], ...differing(told),
     ...told.done && !told.done.length ? [tr("nothing is finished by then")] : [],
     ...told.isOther ? [tr("what was proved is of another table")] : []].join("; ");
   // A frame of its own for each chart: one that was hidden stays blank in Chromium.
@@ -52,10 +56,8 @@ function drawTold() {
     const row = rowOf(each, byId("machines"), "td", "number"), [name] = each;
     row.className = name === told.bottleneck ? "best" : "";
     control("input", name, `${name}: ${tr("down until")}`, made("td", null, row), {type: "datetime-local",
-      value: Object.hasOwn(state.doc.down, name) ? state.doc.down[name] : "", onchange: event => {
-        const {value} = event.target;
-        change(now => changed(now, {down: {...now.doc.down, [name]: value}}));
-      }});
+      value: Object.hasOwn(state.doc.down, name) ? state.doc.down[name] : "", onchange:
+        changing((now, value) => changed(now, {down: {...now.doc.down, [name]: value}}))});
   }
 }
 const order = listIn(byId("order"), at => {
@@ -64,10 +66,8 @@ const order = listIn(byId("order"), at => {
   row.className = isHeld ? "held" : "";
   const add = (kind, key, label, properties, cell = made("td", null, row)) =>
     control(kind, `${job}:${key}`, `${job}: ${label}`, cell, properties);
-  add("input", "hold", tr("hold up to here"), {type: "checkbox", checked: isHeld, onchange: event => {
-    const isOn = event.target.checked;
-    change(now => held(now, job, isOn));
-  }});
+  add("input", "hold", tr("hold up to here"), {type: "checkbox", checked: isHeld, onchange:
+    changing((now, _, isOn) => held(now, job, isOn))});
   add("input", "place", tr("place"), {type: "number", value: at + 1, min: 1, max: told.jobs.length, onchange:
     doing(event => { if (!move("place", job, () => Number(event.target.value) - 1)) order.show(told.jobs.length); })});
   made("td", job, row, {className: "name", title: `${job}: ${start} .. ${end}`});
@@ -112,7 +112,7 @@ export function download(content, kind) {
 }
 
 // What is left of the plan
-byId("now").onchange = event => change(now => changed(now, {now: event.target.value}));
+byId("now").onchange = changing((now, value) => changed(now, {now: value}));
 byId("rest").onclick = doing(async () => {
   await settled();
   if (!isShown(state)) return;
@@ -128,28 +128,29 @@ byId("keep").onclick = doing(async () => {
   await settled();
   change(now => planKept(now, now.doc.title || tr("Plan {number}", {number: now.doc.kept.length + 1})));
 });
-const here = () => keptHere(state);
+let kept = [];
 const moves = listIn(byId("moves"), at => {
   const [job, , end] = told.jobs[at], row = rowOf([job, end]);
-  here().forEach(({ends}, place) => made("td", Object.hasOwn(ends, job) ? ends[job] : "", row,
-                                         {className: told.moved[place]?.includes(job) ? "moved" : ""}));
+  for (const {now} of kept) made("td", Object.hasOwn(now.ends, job) ? now.ends[job] : "", row,
+                                 {className: now.moved.includes(job) ? "moved" : ""});
   return row;
-}, () => rowOf([tr("job ends"), tr("shown"), ...here().map(each => each.title)], null, "th"));
+}, () => rowOf([tr("job ends"), tr("shown"), ...kept.map(({plan}) => plan.title)], null, "th"));
 function drawPlans() {
-  const own = here(), {kept} = state.doc, least = Math.min(...own.map(each => each.span));
-  byId("compared").hidden = !kept.length;
-  moves.show(own.length ? told.jobs.length : 0);
-  byId("plans").replaceChildren(...kept.length ? [rowOf(["plan", "makespan", "finished", "jobs that move", ""]
+  const all = keptNow(state);
+  kept = all.filter(({now}) => now);
+  const least = Math.min(...kept.map(({now}) => now.span));
+  byId("compared").hidden = !all.length;
+  moves.show(kept.length ? told.jobs.length : 0);
+  byId("plans").replaceChildren(...all.length ? [rowOf(["plan", "makespan", "finished", "jobs that move", "", ""]
     .map(text => tr(text)), null, "th")] : []);
-  kept.forEach((each, at) => {
-    const place = own.indexOf(each);
-    // A plan of another table isn't compared.
-    const row = rowOf(place < 0 ? [each.title, tr("of another table"), "", ""]
-      : [each.title, each.makespan, each.end, told.moved[place]?.length ?? ""], byId("plans"));
-    row.className = each.span === least && place >= 0 ? "best" : "";
+  all.forEach(({plan, now, other}, at) => {
+    // A plan without any job of this table isn't compared.
+    const row = rowOf(now ? [plan.title, now.makespan, now.end, now.moved.length, differing({...now, other}).join("; ")]
+      : [plan.title, tr("of another table"), "", "", ""], byId("plans"));
+    row.className = now && now.span === least ? "best" : "";
     const cell = made("td", null, row);
-    made("button", tr("Show"), cell, {onclick: doing(() => change(now => planShown(now, each)))});
-    control("button", `${at},forget`, `${tr("forget this plan")}: ${each.title}`, cell, {textContent: "\u2715",
-      onclick: doing(() => change(now => planForgotten(now, each)))});
+    made("button", tr("Show"), cell, {onclick: doing(() => change(before => planShown(before, plan)))});
+    control("button", `${at},forget`, `${tr("forget this plan")}: ${plan.title}`, cell, {textContent: "\u2715",
+      onclick: doing(() => change(before => planForgotten(before, plan)))});
   });
 }

@@ -1,6 +1,7 @@
 // Draws the table, and changes it.
-import {change, doing, isTooLarge, settled, state, trouble} from "./desk.js";
-import {cellTyped, headOf, isMachine, isRead, rowAdded, rowLeft, skipsFilled, skipsOf, typedAs} from "./document.js";
+import {change, changing, doing, isTooLarge, settled, state, trouble} from "./desk.js";
+import {cellTyped, headOf, isRead, jobsAt, machineChosen, machineEarlier, machinesOf, rowAdded, rowLeft, skipsFilled,
+        skipsOf, typedAs} from "./document.js";
 import {fault, tr} from "./german.js";
 import {byId, control, isDrawing, letters, listIn, made, rowOf} from "./lists.js";
 
@@ -25,7 +26,9 @@ export function drawTable() {
   if (isRead(state)) drawNotes(read);
   if (shown.typed === typed() && shown.read === read) return;
   Object.assign(shown, {typed: typed(), read});
-  for (const name of ["unit", "decimal", "decimals"]) byId(name).value = typed()[name];
+  for (const name of ["unit", "decimal", "decimals", "jobs", "quantity", "setup"])
+    byId(name).value = [typed()[name]].flat().join(", ");
+  byId("columns").replaceChildren(...(headOf(typed())?.[1] || []).filter(Boolean).map(name => new Option("", name)));
   byId("totals").checked = typed().totals;
   if (isRead(state)) drawRead(read);
   cells.show(typed().rows.length);
@@ -42,11 +45,14 @@ function drawNotes(read) {
                               other].filter(Boolean).join(": ") + large;
 }
 function drawRead(read) {
-  const lines = new Map(typed().rows.map(row => [row[0], row]));
   for (const row of typed().rows) wrong.delete(row);
   for (const {line, column, text} of read.faults) {
-    const row = lines.get(line);
-    if (row) wrong.set(row, (wrong.get(row) || new Map()).set(column, fault(text)));
+    // Of the cells of a kind in a column, the server names the first one.
+    const isFirst = / \(and \d+ more cells? of the column\)$/.test(text), job = jobsAt(typed());
+    const isWrong = ([at, cells]) => at === line || isFirst && at > line && cells[job]
+      && !/^\d+([.,]\d+)?$/.test(cells[column - 1] || "");
+    for (const row of typed().rows.filter(isWrong))
+      wrong.set(row, new Map([...wrong.get(row) || [], [column, fault(text)]]));
   }
   byId("sheet").replaceChildren(...(read.sheets || []).map(name => new Option(name, name)));
   byId("sheet").value = typed().sheet || "";
@@ -56,14 +62,6 @@ function drawRead(read) {
   const skips = skipsOf(state);
   byId("skips").hidden = skips.length < 2;
   byId("skips").textContent = tr("0 in these {count} cells", {count: skips.length});
-  // Of the cells of a kind in a column, the server names the first one.
-  for (const {line, column, text} of read.faults) {
-    if (!/ \(and \d+ more cells? of the column\)$/.test(text)) continue;
-    for (const row of typed().rows) {
-      const isNone = row[0] > line && row[1][0] && !/^\d+([.,]\d+)?$/.test(row[1][column - 1] || "");
-      if (isNone && !saidOf(row, column)) wrong.set(row, (wrong.get(row) || new Map()).set(column, fault(text)));
-    }
-  }
   byId("faults").replaceChildren(...read.faults.map(({line, column, text}) => {
     const item = made("li", null), cell = (column ? letters(column) : `${tr("Row")} `) + line;
     made("button", `${cell}: ${fault(text)}`, item, {onclick: () =>
@@ -78,27 +76,28 @@ export function described({jobs, machines, unit, decimals}) {
     unit: unit || tr("no unit"), decimals});
 }
 function drawHead() {
-  const top = rowOf([""], null, "th"), head = headOf(typed());
+  const top = rowOf([""], null, "th"), head = headOf(typed()), all = machinesOf(typed()), job = jobsAt(typed());
   for (let column = 1; column <= wide(); ++column) {
     const cell = made("th", letters(column), top), text = head && head[1][column - 1];
-    if (column > 1 && text) control("input", `${column},machine`, `${text} ${tr("is a machine")}`, cell, {
-      type: "checkbox", checked: isMachine(typed(), text), onchange: doing(event => {
-        const isOn = event.target.checked;
-        change(now => typedAs(now, "machines", {machines: head[1].slice(1).filter(each => each
-          && (each === text ? isOn : isMachine(now.doc.typed, each)))}));
-      })});
+    if (column === job + 1 || !text) continue;
+    const place = all.indexOf(text), label = `${text} ${tr("is a machine")}`;
+    control("input", `${column},machine`, label, cell, {type: "checkbox", checked: place >= 0, onchange:
+      changing((now, _, isOn) => machineChosen(now, text, isOn))});
+    if (place > 0) control("button", `${column},earlier`, `${text}: ${tr("earlier")}`, cell, {textContent: "\u2190",
+      onclick: doing(() => change(now => machineEarlier(now, text)))});
+    if (place >= 0) made("small", place + 1, cell);
   }
   return top;
 }
 function drawRow(at) {
   const row = typed().rows[at], [line, texts] = row, drawn = made("tr", null), said = saidOf(row, 0);
-  const head = headOf(typed());
+  const head = headOf(typed()), all = machinesOf(typed()), job = jobsAt(typed());
   const side = made("th", `${line} `, drawn, {title: said, className: said ? "wrong" : ""});
   control("button", `${line},out`, `${tr("leave this row out")}: ${line}`, side, {textContent: "\u2715",
     onclick: doing(() => change(now => rowLeft(now, line)))});
   for (let column = 1; column <= wide(); ++column) {
     const key = `${line},${column}`, title = saidOf(row, column), before = texts[column - 1] || "";
-    const isOff = column > 1 && head && head[1][column - 1] && !isMachine(typed(), head[1][column - 1]);
+    const name = head && head[1][column - 1], isOff = column !== job + 1 && name && !all.includes(name);
     const td = made("td", null, drawn, {className: title ? "wrong" : isOff ? "off" : ""});
     const commit = doing(() => {
       if (!isDrawing && field.value.trim() !== before) change(now => cellTyped(now, line, column, field.value.trim()));
@@ -109,8 +108,8 @@ function drawRow(at) {
   return drawn;
 }
 byId("skips").onclick = doing(() => change(skipsFilled));
-byId("suggest").onclick = doing(() => change(now => typedAs(now, "machines", {machines: now.read.suggested})));
-byId("all").onclick = doing(() => change(now => typedAs(now, "machines", {machines: []})));
+byId("suggest").onclick = doing(() => change(now => typedAs(now, "machines chosen", {machines: now.read.suggested})));
+byId("all").onclick = doing(() => change(now => typedAs(now, "machines chosen", {machines: []})));
 byId("add").onclick = doing(async () => {
   change(now => rowAdded(now, tr("new")));
   await settled();
