@@ -312,6 +312,7 @@ def test_a_step_between_two_threads_is_not_lost(monkeypatch: pytest.MonkeyPatch)
             time.sleep(0.05)
             super().add(step)
 
+    cut(monkeypatch, 5, 4, 100)
     monkeypatch.setattr(_proof, "LOOK", 0.001)
     shop = pfs.taillard(2)
     proof = _proof.Proof(shop, shop.neh())
