@@ -26,7 +26,7 @@ if TYPE_CHECKING:
 MOST_JOBS, MOST_MACHINES = 256, 64
 # For how many seconds a proof is tried before the search of a plan.
 EARLY = 0.1
-# The processor seconds of a call, and how often it is looked at. The nodes of the first call, and how many times as
+# How long a call takes and how often it is looked at, in seconds. The nodes of the first call, and how many times as
 # many the next one may have.
 CALL, LOOK, FIRST, MORE = 0.05, 0.02, 256, 4
 # The most parts of a call.
@@ -183,9 +183,10 @@ class Caller:
         """Search parts whose bounds are below the makespan of the order and the limit. What is searched doesn't depend
         on where calls end: if the order that is found closes a part that the library has searched, as it doesn't know
         its bound, the call is made again without it."""
-        begun = time.thread_time()
+        begun, used = time.monotonic(), time.thread_time()
         found = self.call(parts, order, limit, nodes)
-        took = time.thread_time() - begun
+        # On a busy machine a call is longer, as its start takes a part of it.
+        took = min(time.monotonic() - begun, 4 * (time.thread_time() - used))
         if found.nodes == nodes:
             fitting = int(nodes * CALL / max(took, 1e-9))
             self.nodes = max(1, fitting) if took > CALL else max(self.nodes, min(MORE * nodes, fitting))
