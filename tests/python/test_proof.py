@@ -293,3 +293,28 @@ def test_the_same_instance_in_proofs_at_once() -> None:
     for thread in threads:
         thread.join()
     assert found == [NODES] * 3
+
+
+@given(plainly.shops_and_orders(), st.integers(0, 60), st.integers(2, 4))
+def test_threads_use_their_nodes_up(case: tuple[plainly.Table, list[int]], nodes: int, threads: int) -> None:
+    """Unless nothing is left: nodes that one thread had asked for and doesn't need are another one's."""
+    shop = pfs.Instance(case[0])
+    with pytest.MonkeyPatch.context() as patch:
+        cut(patch, 7, 2, 20)
+        proof = shop.optimum(nodes=nodes, start=case[1], threads=threads).proof
+    assert proof is not None and (proof.nodes == nodes or proof.nodes < nodes and proof.open == 0)
+
+
+def test_a_step_between_two_threads_is_not_lost(monkeypatch: pytest.MonkeyPatch) -> None:
+    """The main thread looks while a thread takes a step."""
+    class Slow(set[_proof.Step]):
+        def add(self, step: _proof.Step) -> None:
+            time.sleep(0.05)
+            super().add(step)
+
+    cut(monkeypatch, 5, 4, 100)
+    monkeypatch.setattr(_proof, "LOOK", 0.001)
+    shop = pfs.taillard(2)
+    proof = _proof.Proof(shop, shop.neh())
+    proof.running = Slow()
+    assert _proof.proved(proof, 60, bool, threads=2).optimal

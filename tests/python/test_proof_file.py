@@ -105,7 +105,8 @@ SENSELESS = "state: a proof file, but its lines make no sense"
 WRONG: dict[str, tuple[Callable[[str], str], str]] = {
     "empty": (lambda text: "", "state: not a proof file"),
     "other": (lambda text: json.dumps({"state": "pfs search 2"}), "state: not a proof file"),
-    "version": (lambda text: text.replace("pfs proof 1", "pfs proof 2"), "state: a proof file of another version of pfs: 'pfs proof 2'"),
+    "version": (lambda text: text.replace("pfs proof 1", "pfs proof 2"),
+                "state: a proof file of another version of pfs: 'pfs proof 2'"),
     "half": (lambda text: text[:len(text) // 2], DAMAGED),
     "a digit": (lambda text: text.replace("step ", "step 9", 1), DAMAGED),
     "a line less": (lambda text: "".join(text.splitlines(keepends=True)[:-1]), DAMAGED),

@@ -43,9 +43,10 @@ else:
         raise AttributeError(f"module 'pfs' has no attribute {name!r}")
 
 __all__ = [
-    "Audited", "Calendar", "Check", "Fault", "FileFault", "Improvement", "Instance", "Interrupted", "InterruptedAll",
-    "OrderFault", "Place", "Proved", "Report", "Rest", "Schedule", "Sequence", "Solution", "TableFault", "__version__",
-    "audit", "from_frame", "generate", "parse_order", "read", "read_all", "read_csv", "read_order", "solve_all", "taillard",
+    "Audited", "Calendar", "Check", "Fault", "FileFault", "Improvement", "Instance", "Interrupted",
+    "InterruptedAll", "OrderFault", "Place", "Proved", "Report", "Rest", "Schedule", "Sequence", "Solution",
+    "TableFault", "__version__", "audit", "from_frame", "generate", "parse_order", "read", "read_all", "read_csv",
+    "read_order", "solve_all", "taillard",
 ]
 
 

@@ -88,6 +88,7 @@ class Step:
         self.done: list[Part] = []
         self.left: list[Part] = []
         self.more: list[Step] = []
+        self.goal = MOST
 
     def is_closed(self) -> bool:
         return not (self.left or self.rest or self.more)
@@ -100,9 +101,11 @@ class Step:
             steps += reversed(step.more)
 
     def drop(self, goal: int) -> None:
-        """Leave out the parts that can't have an order below a number."""
-        self.left = [part for part in self.left if part.bound < goal]
-        self.rest = [part for part in self.rest if part.bound < goal]
+        """Leave out the parts that can't have an order below a number, unless that was done."""
+        if goal < self.goal:
+            self.left = [part for part in self.left if part.bound < goal]
+            self.rest = [part for part in self.rest if part.bound < goal]
+            self.goal = goal
 
     def advance(self, reached: int, left: list[Part], nodes: int) -> None:
         """Replace the parts that a call has reached by what it has left of them."""
@@ -180,9 +183,10 @@ class Caller:
         """Search parts whose bounds are below the makespan of the order and the limit. What is searched doesn't depend
         on where calls end: if the order that is found closes a part that the library has searched, as it doesn't know
         its bound, the call is made again without it."""
-        begun = time.monotonic()
+        begun, used = time.monotonic(), time.thread_time()
         found = self.call(parts, order, limit, nodes)
-        took = time.monotonic() - begun
+        # On a busy machine a call is longer, as its start takes a part of it.
+        took = min(time.monotonic() - begun, 4 * (time.thread_time() - used))
         if found.nodes == nodes:
             fitting = int(nodes * CALL / max(took, 1e-9))
             self.nodes = max(1, fitting) if took > CALL else max(self.nodes, min(MORE * nodes, fitting))
@@ -255,7 +259,9 @@ class Proof:
             raise self.error
 
     def is_busy(self) -> bool:
-        return not self.is_stopped and self.floor < self.goal and bool(self.waiting or self.running)
+        with self.lock:
+            is_open = not self.is_stopped and self.floor < self.goal
+            return is_open and bool(self.running or self.waiting and self.budget)
 
     def stop(self, error: BaseException | None = None) -> None:
         """Let each thread end after its call."""
@@ -277,7 +283,7 @@ class Proof:
         """Wait for a step, and return it; None if there is none left or the search has to end."""
         with self.lock:
             self.idle += 1
-            while not self.waiting and self.is_busy():
+            while self.is_busy() and not (self.waiting and self.budget):
                 self.lock.wait()
             self.idle -= 1
             if not self.is_busy():
@@ -305,13 +311,16 @@ class Proof:
             return self.is_kept(step)
 
     def is_kept(self, step: Step) -> bool:
-        """Whether a thread continues a step. Else the step ends, and what is left of it waits."""
+        """Whether a thread continues a step. Else the step waits for nodes that other threads don't need, or it ends,
+        and what is left of it waits."""
         count, is_shared = len(step.left) + len(step.rest), self.is_short()
-        self.is_stopped = self.is_stopped or not self.budget
-        if count and not self.is_stopped and step.nodes < GRAIN and not (is_shared and count > 1):
+        is_begun = count > 0 and step.nodes < GRAIN and not (is_shared and count > 1)
+        if is_begun and self.budget and not self.is_stopped:
             return True
         self.running.remove(step)
-        if not self.is_stopped or not count:
+        if is_begun or self.is_stopped:
+            self.waiting.append(step)
+        else:
             self.waiting += step.end(1 + self.idle if is_shared else 1)
             if step.parent:
                 step.parent.fold(self.grain)
@@ -354,7 +363,7 @@ class Proof:
     def coarsen(self) -> None:
         """Let steps that are closed have more nodes, so that there are fewer."""
         with self.lock:
-            self.grain *= 4
+            self.grain *= 16
             for step in reversed([*self.root.all()]):
                 step.fold(self.grain)
 
