@@ -16,7 +16,8 @@ import shutil
 import signal
 import subprocess
 import sys
-from collections.abc import Container, Iterator, Mapping
+import time
+from collections.abc import Container, Iterator, Mapping, Sequence
 from typing import TypedDict
 
 from pfs.base.cells import FORMULA, text_cell
@@ -44,6 +45,8 @@ SAME = ["instance", "method", "rounds", "time_factor", "take", "passes", "seed",
 NEEDED = ["instance", "rounds", "take", "passes", "seed", "repetition", "makespan", "bound", "status", "order"]
 # By default an array of Slurm has at most this number of tasks, and each takes at least about this number of seconds.
 MOST_TASKS, LEAST_SECONDS = 1000, 60
+# For how many seconds the tasks of an array may complete after it has ended.
+COMPLETING = 60
 # A number as pandas may write it.
 WRITTEN = re.compile(r"\A([0-9]+(?:\.[0-9]*[1-9])?)\.?0*\Z")
 # More than pfs needs for a table cell.
@@ -154,8 +157,19 @@ def slurm(args: Options) -> int:
         print(f"{args.csv}: {len(left)} runs still to run", file=sys.stderr)
         return 0
     if left:
-        subprocess.run(words, cwd=experiment.folder, stdin=subprocess.DEVNULL, stdout=sys.stderr)
+        submit(words, experiment.folder, experiment.stage)
     return 1 if any(gather(experiment, args.csv)) else 0
+
+
+def submit(words: Sequence[str], folder: pathlib.Path, name: str, variables: dict[str, str] | None = None) -> None:
+    """Submits an array of this name and waits for it. sbatch returns while tasks that were ended still complete, and
+    their logs then lack what Slurm says of them."""
+    subprocess.run(words, cwd=folder, env=variables, stdin=subprocess.DEVNULL, stdout=sys.stderr)
+    end = time.monotonic() + COMPLETING
+    completing = ["squeue", "--noheader", f"--name={name}", "--states=completing"]
+    with contextlib.suppress(FileNotFoundError):
+        while time.monotonic() < end and subprocess.run(completing, capture_output=True).stdout.strip():
+            time.sleep(0.1)
 
 
 def seconds_of(run: Row) -> float:

@@ -10,7 +10,6 @@ import secrets
 import shlex
 import shutil
 import signal
-import subprocess
 import sys
 from collections.abc import Mapping, Sequence
 from typing import Any, NamedTuple
@@ -19,7 +18,7 @@ import pfs
 from pfs.binding.library import PATH
 from pfs.experiments import Options, folders
 from pfs.experiments.folders import Experiment
-from pfs.experiments.run import parallel
+from pfs.experiments.run import parallel, submit
 from pfs.shops.proof import Proof, proved
 from pfs.shops.proof_file import ProofFile, read_proof
 from pfs.shops.instance import Instance
@@ -103,10 +102,10 @@ def run(args: Options, experiment: Experiment, begun: pathlib.Path) -> bool:
         return False
     if args.slurm:
         (experiment.folder / "slurm").mkdir(exist_ok=True)
-        subprocess.run(["sbatch", "--wait", f"--array=1-{count}", f"--job-name={experiment.stage}-proofs",
-                        "--dependency=singleton", "--output=slurm/%A-%a.log", *args.options,
-                        "--wrap", f"exec {shlex.join(words)} $SLURM_ARRAY_TASK_ID"],
-                       cwd=experiment.folder, env=environment(), stdin=subprocess.DEVNULL, stdout=sys.stderr)
+        name_of_job = f"{experiment.stage}-proofs"
+        submit(["sbatch", "--wait", f"--array=1-{count}", f"--job-name={name_of_job}", "--dependency=singleton",
+                "--output=slurm/%A-%a.log", *args.options, "--wrap", f"exec {shlex.join(words)} $SLURM_ARRAY_TASK_ID"],
+               experiment.folder, name_of_job, environment())
         return False
     status = parallel(experiment.folder, ["parallel", "--plain", "--will-cite", "--jobs", str(args.jobs), "--arg-file",
                                           f"{name}/tasks", *args.options, *words], environment())
