@@ -55,7 +55,7 @@ def test_no_order_is_shorter(case: tuple[plainly.Table, list[int]], first: int, 
         for best in (whole, shop.optimum(60), found, shop.solve(0, start=order, prove=60),
                      pfs.solve_all([shop], [1], 0, prove=60)[0, 1]):
             assert (best.makespan, best.bound, best.optimal) == (least, least, True)
-            assert plainly.makespan(times, best.order.tolist()) == least and best.rounds in (0, 100)
+            assert plainly.makespan(times, best.order.tolist()) == least and best.rounds <= 100
     if threads == 1:
         assert (found.order.tolist(), found.proof and found.proof.nodes) == (
             whole.order.tolist(), whole.proof and whole.proof.nodes)

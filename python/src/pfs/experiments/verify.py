@@ -47,9 +47,15 @@ def verify(args: Options) -> int:
 def wrong(proof: Proof, listed: dict[bytes, Part], step: Step) -> str:
     """Returns what is wrong with a step, or an empty text. Where the best order is better now than it was when the step
     was searched, each of its parts may take a node more, since the library doesn't know the bounds."""
+    return fault_of(proof, listed, step, step.nodes) and fault_of(proof, listed, step, step.nodes + len(step.done))
+
+
+def fault_of(proof: Proof, listed: dict[bytes, Part], step: Step, nodes: int) -> str:
+    """Returns what a search of a step by some nodes finds wrong. With more nodes than the step had it may find an order
+    below the goal, in a part that is open."""
     caller, order = Caller(proof.shop, len(step.done)), proof.best.order.astype(np.uint32).tobytes()
-    found = caller.call(step.done, order, proof.limit, step.nodes + len(step.done))
-    if found.makespan < proof.goal:
+    found = caller.call(step.done, order, proof.limit, nodes)
+    if found.makespan < proof.goal and not any(part.has(Part(found.order, 0)) for part in proof.open()):
         return f"an order takes {found.makespan}"
     if found.reached < len(step.done):
         return f"{step.nodes} nodes don't search {len(step.done)} parts"
