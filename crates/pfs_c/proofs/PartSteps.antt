@@ -12,7 +12,7 @@ use Rattle.std.proofs.Math.Seq.{drop-append_seam, get_or-append_seam}
 use borrow.Rule.Slice.PartMut.{put_mid}
 use Rattle.pfs_base.specs.FlowShop.{FlowShop}
 use Rattle.pfs_base.specs.Paths.{makespan}
-use Rattle.pfs_batch.specs.Many.{sequence_at}
+use Rattle.pfs_batch.specs.SequenceLists.{sequence_at}
 use Rattle.pfs_exact.specs.declared.parts.Part.{Part}
 use Rattle.pfs_exact.specs.Parts.{IsIn, IsInSome, IsPart}
 use Rattle.pfs_order.specs.Sequence.{IsSequence}

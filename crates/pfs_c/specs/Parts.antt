@@ -6,7 +6,7 @@ use Rattle.pfs_audit.specs.Bound.{bound_of}
 use Rattle.pfs_base.specs.FlowShop.{FlowShop}
 use Rattle.pfs_base.specs.Lists.{below, first_some}
 use Rattle.pfs_base.specs.Paths.{makespan}
-use Rattle.pfs_batch.specs.Many.{sequence_at}
+use Rattle.pfs_batch.specs.SequenceLists.{sequence_at}
 use Rattle.pfs_exact.specs.declared.prove.TheConstants.{MOST_PROVED_JOBS, MOST_PROVED_MACHINES}
 use Rattle.pfs_order.specs.Sequence.{IsSequence}
 use Rattle.pfs_c.specs.declared.numbers.CallFault.{CallFault}

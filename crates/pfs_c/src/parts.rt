@@ -1,7 +1,7 @@
 //! Searches of parts of all orders, for C.
 ghost use Rattle.std.specs.Prelude.{◌≡◌, ◌≢◌, ℕ, ◌+◌, ◌*◌, ◌/◌, ◌<◌, ◌≤◌, ◌++◌, length, take, drop, All};
 ghost use Rattle.std.specs.Prelude.{IfOk, IfErr, IfSome, slice_index};
-ghost use Rattle.pfs_batch.specs.Many.{sequence_at};
+ghost use Rattle.pfs_batch.specs.SequenceLists.{sequence_at};
 ghost use Rattle.pfs_exact.specs.Parts.{IsPart};
 ghost use Rattle.pfs_order.specs.Sequence.{IsSequence};
 ghost use Rattle.pfs_c.specs.Numbers.{Returns};

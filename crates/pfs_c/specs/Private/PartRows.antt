@@ -1,6 +1,6 @@
 -- The rows of a list of parts.
 use Rattle.std.specs.Prelude.{◌≡◌, ℕ, ◌+◌, ◌-◌, ◌<◌, ◌≤◌, List, length, slice_index, slice_index_or}
-use Rattle.pfs_batch.specs.Many.{sequence_at}
+use Rattle.pfs_batch.specs.SequenceLists.{sequence_at}
 use Rattle.pfs_exact.specs.declared.parts.Part.{Part}
 use Rattle.pfs_c.specs.declared.parts.TheConstants.{PFS_OPEN}
 

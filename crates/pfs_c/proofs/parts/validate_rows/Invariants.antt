@@ -1,5 +1,5 @@
 use Rattle.std.proofs.Common.{◌≡◌, ℕ, ◌<◌, None}
-use Rattle.pfs_batch.specs.Many.{sequence_at}
+use Rattle.pfs_batch.specs.SequenceLists.{sequence_at}
 use Rattle.pfs_c.specs.Parts.{jobs_of}
 use Rattle.pfs_c.specs.Validation.{jobs_fault}
 use Rattle.pfs_c.proofs.parts.validate_rows.Given as goal

@@ -1,5 +1,5 @@
 use Rattle.std.proofs.Common.{◌≡◌, ℕ, ◌<◌, get_or}
-use Rattle.pfs_batch.specs.Many.{sequence_at}
+use Rattle.pfs_batch.specs.SequenceLists.{sequence_at}
 use Rattle.pfs_exact.specs.declared.parts.Part.{Part}
 use Rattle.pfs_c.specs.Private.PartRows.{IsRow}
 use Rattle.pfs_c.proofs.parts.write_parts.Given as goal
