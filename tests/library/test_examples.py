@@ -59,7 +59,7 @@ def run(built: pathlib.Path, name: str, *words: str | pathlib.Path, cwd: pathlib
 
 
 def test_the_page_has_each_example() -> None:
-    names = {path.name for path in SOURCES} | {"neh.R", "neh.rs", "neh_cffi.py", "pfs.hpp", "pfs.rs", "pfs_r.c",
+    names = {path.name for path in SOURCES} | {"neh.R", "neh.jl", "neh.rs", "neh_cffi.py", "pfs.hpp", "pfs.rs", "pfs_r.c",
                                               "README.md"}
     assert {path.name for path in EXAMPLES.iterdir()} == names
     assert set(re.findall(r"^`(\w+) ", PAGE, re.MULTILINE)) == {path.stem for path in SOURCES}
@@ -249,6 +249,30 @@ def test_the_example_in_r(installed: pathlib.Path, folder: pathlib.Path) -> None
     done = run_tool(["sh", "-e", "-c", line.replace("pfs_r.c", "pfs_r.c > log", 1)], folder, env=env)
     assert re.fullmatch("order 2 1 3, makespan 10\npfs: a job .* twice.*\n", done.stdout), done
     assert "warning" not in (folder / "log").read_text() + done.stderr
+
+
+def test_the_example_in_julia(installed: pathlib.Path, folder: pathlib.Path) -> None:
+    assert "\njulia neh.jl\n" in PAGE
+    env = dict(os.environ, LD_LIBRARY_PATH=str(installed / "lib"))
+    assert output_of([tool("julia"), EXAMPLES / "neh.jl"], folder, env=env) == IN_OTHER_LANGUAGES
+
+
+# The types of Julia that stand for those of C.
+IN_JULIA = {"const uint32_t *": "Ptr{UInt32}", "uint32_t *": "Ptr{UInt32}", "uint64_t *": "Ref{UInt64}",
+            "size_t ": "Csize_t", "int ": "Cint", "void ": "Cvoid", "const char *": "Cstring",
+            "struct pfs_instance *": "Ref{Ptr{Cvoid}}"}
+
+
+def test_the_calls_in_julia_are_those_of_the_header() -> None:
+    """Names and types of arguments and results, also where Julia isn't installed."""
+    header = (EXAMPLES.parent / "lib" / "pfs.h").read_text()
+    calls = re.findall(r"@ccall PFS\.(\w+)\((.*?)\)::(Cint|Cvoid|Cstring)", (EXAMPLES / "neh.jl").read_text(), re.DOTALL)
+    assert [name for name, _, _ in calls] == ["pfs_prepare", "pfs_neh", "pfs_release", "pfs_message"]
+    for name, arguments, returned in calls:
+        [(kind, words)] = re.findall(rf"^((?:\w+ )+\*?){name}\(([^)]*)\)", header, re.MULTILINE)
+        due = [re.sub(r"\w+$", "", word.strip()) for word in re.split(r",\s*", words)]
+        assert re.findall(r"::([^,\s]+)", arguments) == [IN_JULIA[each] for each in due], name
+        assert returned == IN_JULIA[kind], name
 
 
 # What people copy: the header for C++ and the module for Rust

@@ -115,7 +115,9 @@ def test_without_a_proof_nothing_is_optimal_but_at_the_bound() -> None:
     at_bound = pfs.Instance([[3, 2], [2, 5], [4, 1]]).solve(10)
     assert (at_bound.optimal, at_bound.bound) == (True, at_bound.makespan)
     assert pfs.Instance([[3, 2], [2, 5], [4, 1]]).optimum().rounds == 0, "NEH's order has the bound"
-    assert not pfs.Solution([0, 1], 7).optimal and pfs.Solution([0, 1], 0).optimal, "no makespan is below 0"
+    unchecked = pfs.Solution([0, 1], 0)
+    assert not unchecked.optimal and not copy.copy(unchecked).optimal and unchecked.bound == 0, "no bound is known"
+    assert pfs.Instance([[0], [0]]).neh().bound == 0 and pfs.Instance([[0], [0]]).solve(1).optimal, "the bound is 0"
     for name in ("makespan", "cells", "machines", "rounds", "seed"):
         with pytest.raises(ValueError, match=f"^{name} must be from 0 to"):
             pfs.Solution([0, 1], **{"makespan": 7, name: -1})

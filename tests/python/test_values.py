@@ -232,6 +232,22 @@ def test_a_copy_has_each_attribute(protocol: int | None) -> None:
     assert pfs.taillard(1).solve(200, history=True) == pfs.taillard(1).solve(200), "the history is compared"
 
 
+def test_jupyter_shows_tables() -> None:
+    """Of at most 20 jobs and machines, with their names, as text."""
+    shop = pfs.Instance([[30, 20], [25, 5]], name="<b>", job_names=["<i>", "b"], machine_names=["saw", "&"], decimals=1)
+    assert shop._repr_html_() == (
+        "<p>Instance &lt;b&gt;: 2 jobs, 2 machines</p><table><tr><td></td><td>saw</td><td>&amp;</td></tr>"
+        "<tr><td>&lt;i&gt;</td><td>3.0</td><td>2.0</td></tr><tr><td>b</td><td>2.5</td><td>0.5</td></tr></table>")
+    for size, shown in ((20, 20), (21, 20)):
+        assert pfs.generate(size, size, 1)._repr_html_().count("<td>") == (shown + 1) ** 2
+    best = pfs.Solution([1, 0], 6)
+    row = "<tr><td>order, from 0</td><td>1 0</td></tr></table>"
+    for bound, text in ((0, "6</td></tr>"), (5, "6</td></tr><tr><td>bound</td><td>5</td></tr>"),
+                        (6, "6, optimal</td></tr>")):
+        best.bound = bound
+        assert best._repr_html_() == f"<table><tr><td>makespan</td><td>{text}{row}"
+
+
 def test_instances_and_solutions_are_shown() -> None:
     shop = pfs.taillard(1)
     assert shop != pfs.taillard(2) and shop.neh() != shop.solve(100)

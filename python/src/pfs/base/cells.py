@@ -1,7 +1,8 @@
-"""Cells of CSVs that no spreadsheet takes for formulas, and no reader for others."""
+"""Cells of CSVs that no spreadsheet takes for formulas, and no reader for others; and tables in HTML."""
 from __future__ import annotations
 
 import csv
+import html
 import re
 from collections.abc import Iterable
 from types import SimpleNamespace
@@ -37,3 +38,13 @@ def csv_writer(lines: list[str], names: Iterable[str], delimiter: str = ",") -> 
     # With this line terminator, cells that contain \r or \n are quoted.
     file = SimpleNamespace(write=lambda row: lines.append(row.removesuffix("\r\n") + "\n"))
     return csv.writer(file, delimiter=delimiter, lineterminator="\r\n", quoting=quoting_of(names, delimiter))
+
+
+def html_table(rows: Iterable[Iterable[str]]) -> str:
+    """Return a table of texts in HTML.
+
+    >>> html_table([["saw", "<1 & 2"]])
+    '<table><tr><td>saw</td><td>&lt;1 &amp; 2</td></tr></table>'
+    """
+    lines = ("".join(f"<td>{html.escape(text)}</td>" for text in row) for row in rows)
+    return f"<table>{''.join(f'<tr>{line}</tr>' for line in lines)}</table>"

@@ -2,6 +2,7 @@
 from __future__ import annotations
 
 import hashlib
+import html
 import os
 from collections.abc import Iterable
 from ctypes import byref, c_size_t, c_uint64, create_string_buffer
@@ -12,8 +13,9 @@ import numpy as np
 import numpy.typing as npt
 
 from pfs.base.atomic import atomic_write
+from pfs.base.cells import html_table
 from pfs.base.names import frame_names, is_frame, names_of
-from pfs.base.units import CLOCK
+from pfs.base.units import CLOCK, amount
 from pfs.binding import library as c
 from pfs.binding.library import LENGTHS, SHORT, Prepared, quick_insert, quick_insertions, quick_makespan
 from pfs.binding.validate import (BOOLS, MOST_UINT32, Order, array_copy, as_uint32, as_uint32_bytes, checked_int,
@@ -160,6 +162,14 @@ class Instance:
 
     def __repr__(self) -> str:
         return f"<Instance {self.name + ': ' if self.name else ''}{self.jobs} jobs, {self.machines} machines>"
+
+    def _repr_html_(self) -> str:
+        """Return the times as a table for Jupyter, of at most 20 jobs and 20 machines."""
+        machines = [*range(self.machines)][:20]
+        rows = [["", *map(self.machine_name, machines)]] + [
+            [self.job_name(job), *(amount(int(self.times[job, machine]), self.decimals, self.unit)
+                                   for machine in machines)] for job in range(min(self.jobs, 20))]
+        return f"<p>{html.escape(repr(self)[1:-1])}</p>{html_table(rows)}"
 
     def _metadata(self) -> dict[str, Any]:
         return {name: getattr(self, name) for name in self.__slots__ if name[0] != "_"}

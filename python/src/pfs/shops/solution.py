@@ -9,6 +9,7 @@ import numpy as np
 import numpy.typing as npt
 
 from pfs.base.atomic import atomic_write
+from pfs.base.cells import html_table
 from pfs.binding import library as c
 from pfs.binding.validate import Order, checked_int, checked_jobs, jobs_error
 
@@ -56,7 +57,8 @@ class Solution:
     bound : int
         No order of the instance has a makespan below it, as the library has proved, or 0 if nothing is known.
     optimal : bool
-        Whether the makespan is the bound, so that no order is shorter. If it is False, this isn't known.
+        Whether the makespan is the bound, so that no order is shorter. If it is False, this isn't known. It is False
+        without a bound.
     current : numpy.ndarray or None
         The order from which a search with the method ``"iterated-greedy"`` continues, which may be a longer one.
     proof : Proved or None
@@ -77,8 +79,7 @@ class Solution:
     makespan 10
     """
 
-    __slots__ = ("order", "makespan", "cells", "machines", "rounds", "seed", "history", "bound",
-                 "proof", "current")
+    __slots__ = ("order", "makespan", "cells", "machines", "rounds", "seed", "history", "_bound", "proof", "current")
 
     def __init__(self, order: npt.ArrayLike, makespan: int, cells: int = 0, machines: int = 0, rounds: int = 0,
                  seed: int = 0) -> None:
@@ -91,19 +92,35 @@ class Solution:
         self.rounds = checked_int(rounds, "rounds", 0, c.MOST_ROUNDS)
         self.seed = checked_int(seed, "seed", 0, c.MOST_SEED)
         self.history: tuple[Improvement, ...] = ()
-        self.bound = 0
+        self._bound: int | None = None
         self.proof: Proved | None = None
         self.current: Order | None = None
 
     @property
+    def bound(self) -> int:
+        """No order has a makespan below it; 0 if nothing is known."""
+        return self._bound or 0
+
+    @bound.setter
+    def bound(self, bound: int) -> None:
+        self._bound = bound
+
+    @property
     def optimal(self) -> bool:
         """Whether the makespan is the bound, so that no order is shorter."""
-        return self.makespan == self.bound
+        return self.makespan == self._bound
 
     def __repr__(self) -> str:
         jobs = self.order.tolist()
         shown = ", ".join(map(str, jobs if len(jobs) <= 20 else [*jobs[:8], "...", *jobs[-8:]]))
         return f"Solution(order=[{shown}], makespan={self.makespan})"
+
+    def _repr_html_(self) -> str:
+        """Return a table for Jupyter."""
+        known = {"makespan": f"{self.makespan}{', optimal' * self.optimal}",
+                 **({"bound": str(self.bound)} if self.bound and not self.optimal else {}),
+                 "order, from 0": " ".join(map(str, self.order.tolist()))}
+        return html_table(([name, text] for name, text in known.items()))
 
     def _fields(self) -> tuple[list[int], int, int, int, int, int]:
         return self.order.tolist(), self.makespan, self.cells, self.machines, self.rounds, self.seed
@@ -117,7 +134,7 @@ class Solution:
         return hash((self.order.tobytes(), self.makespan))
 
     def __reduce__(self) -> tuple[Any, ...]:
-        return type(self), self._fields(), (None, {"history": self.history, "bound": self.bound, "proof": self.proof,
+        return type(self), self._fields(), (None, {"history": self.history, "_bound": self._bound, "proof": self.proof,
                                                   "current": self.current})
 
     def to_text(self) -> str:
