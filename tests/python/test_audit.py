@@ -238,3 +238,36 @@ def test_check() -> None:
     for wrong in (10.5, "10", True):
         with pytest.raises(TypeError, match="stated must be an integer"):
             SMALL.check(best, wrong)  # type: ignore[arg-type]
+
+
+def test_shorter_orders_are_put_into_a_table(tmp_path: pathlib.Path, monkeypatch: pytest.MonkeyPatch,
+                                             capsys: pytest.CaptureFixture[str]) -> None:
+    """Only valid ones that are shorter, of Taillard's instances by their times, and the shortest of several. Bounds
+    stay, and the table can be audited itself."""
+    monkeypatch.chdir(tmp_path)
+    long, by_neh = {at: [*range(20)] for at in (1, 2, 3)}, {at: pfs.taillard(at).neh() for at in (1, 2, 3)}
+    spans = {at: pfs.taillard(at).makespan(order) for at, order in long.items()}
+    text = "instance,makespan,bound,nodes,method,seed,rounds,order\n"
+    jobs = " ".join(map(str, range(1, 21)))
+    pathlib.Path("best.csv").write_text(
+        text + "".join(f"ta00{at},{span},1000,5,first,1,2,{jobs}\n" for at, span in spans.items()))
+    pfs.generate(20, 5, 7).write("ta003")
+    rows = [("ta001", by_neh[1].makespan, by_neh[1].order, "=NEH"), ("ta001", spans[1], long[1], "later"),
+            ("ta002", by_neh[2].makespan - 1, by_neh[2].order, "wrong"),
+            ("ta003", pfs.generate(20, 5, 7).neh().makespan, pfs.generate(20, 5, 7).neh().order, "another instance")]
+    pathlib.Path("table.csv").write_text("instance,Cmax,order,method\n" + "".join(
+        f"{name},{span},{' '.join(str(job + (method != '=NEH')) for job in order)},{method}\n"
+        for name, span, order, method in rows))
+    assert run("table.csv --instances . --best best.csv") == 1
+    assert f"best.csv: ta001: {by_neh[1].makespan}, not {spans[1]}\n" in capsys.readouterr().out
+    first, *others = pathlib.Path("best.csv").read_text().splitlines()[1:]
+    order = " ".join(str(job + 1) for job in by_neh[1].order)
+    assert first == f"ta001,{by_neh[1].makespan},1000,,'=NEH,,,{order}"
+    assert others == [f"ta00{at},{spans[at]},1000,5,first,1,2,{jobs}" for at in (2, 3)]
+    pathlib.Path("ta003").unlink()
+    assert run("best.csv") == 0 and "3 orders audited, 3 valid" in capsys.readouterr().out
+    for damaged in ("instance,order\n", ""):
+        pathlib.Path("best.csv").write_text(damaged)
+        with pytest.raises(ExperimentError, match="^best.csv: the first line must be instance,makespan,bound,"):
+            run("table.csv --best best.csv")
+        assert pathlib.Path("best.csv").read_text() == damaged

@@ -1,5 +1,6 @@
 """Files: instances, order files and Taillard's benchmark, against the program and byte for byte."""
 import contextlib
+import copy
 import csv
 import io
 import os
@@ -17,6 +18,7 @@ import pfs
 import pytest
 from hypothesis import given
 from hypothesis import strategies as st
+from pfs.base import benchmarks
 from pfs.shops import search as _search
 from pfs.files import state as _state
 from pfs.plan.orders import order_in
@@ -339,6 +341,32 @@ def test_taillards_instances_are_those_of_the_lists() -> None:
         shop = pfs.taillard(number)
         assert ",".join(map(str, [shop.name, shop.jobs, shop.machines, shop.seed, shop.lower, shop.upper])) == row
         assert shop.upper >= shop.lower
+
+
+def test_taillards_instances_have_audited_orders() -> None:
+    """Each is an order of all jobs with the makespan of the table, by plain definitions, and none is below the bound."""
+    for number, row in enumerate(benchmarks.taillard_best().values(), 1):
+        shop, order = pfs.taillard(number), [int(job) - 1 for job in row.order.split()]
+        best = shop.best
+        assert best and row.instance == shop.name and best.order.tolist() == order
+        assert sorted(order) == [*range(shop.jobs)]
+        assert best.makespan == int(row.makespan) == plainly.makespan(shop.times.tolist(), order)
+        assert shop.bound("pairs") <= best.bound == int(row.bound) <= best.makespan
+        assert best.optimal == (row.makespan == row.bound)
+        if best.optimal and int(row.nodes) < 1000:
+            assert shop.optimum(60, start=best, nodes=int(row.nodes)).optimal, "not by so many nodes"
+    assert number == 120
+
+
+def test_other_instances_have_no_best_order(tmp_path: pathlib.Path) -> None:
+    """Taillard's are known by seed and times, also from a file, and in a copy."""
+    shop = pfs.taillard(5)
+    shop.write(tmp_path / "shop", "taillard")
+    assert shop.best and pfs.read(tmp_path / "shop", "taillard").best == copy.copy(shop).best == shop.best
+    times = shop.times.copy()
+    times[7, 3] += 1
+    assert pfs.Instance(times, name="ta005", seed=shop.seed).best is None
+    assert pfs.Instance(shop.times, name="ta005").best is None and pfs.generate(20, 5, 1).best is None
 
 
 # The layout "matrix": the sizes on one line, and then a line of times for each job

@@ -11,8 +11,11 @@ from collections.abc import Callable
 from typing import Any
 from unittest import mock
 
+import numpy as np
 import pfs
 import pytest
+from hypothesis import given
+from hypothesis import strategies as st
 from support.colours import least_difference
 from support.experiments import Experiment
 from support.tools import Done, csv_rows, run_main, run_tool
@@ -24,7 +27,7 @@ import pandas
 from matplotlib.colors import to_hex
 from pfs.experiments import __main__ as experiments
 from pfs.experiments import report as typed
-from pfs.experiments.statistics import common, holm
+from pfs.experiments.statistics import alike, common, critical_difference, holm
 
 HEAD = "instance,jobs,machines,rounds,take,passes,seed,repetition,makespan,bound,gap_percent,cells,seconds,status\n"
 # By hand, and no mean is a median. The best makespans are 101 of a, 103 of b and 200 of c, from which the RPD of a's
@@ -811,10 +814,64 @@ def test_the_labels_of_differences_have_room(done: Callable[[str], Any]) -> None
         assert all(0 < box.x0 and box.x1 < figure.bbox.width for box in [*texts, *labels])
 
 
+def test_critical_differences_are_those_of_tables() -> None:
+    """The quantiles of Nemenyi's test at 5 %, as Demšar (2006) has them, and his example of 4 methods."""
+    quantiles = {2: 1.960, 3: 2.343, 4: 2.569, 5: 2.728, 6: 2.850, 7: 2.949, 8: 3.031, 9: 3.102, 10: 3.164}
+    for count, quantile in quantiles.items():
+        due = quantile * math.sqrt(count * (count + 1) / (6 * 14))
+        assert critical_difference(count, 14) == pytest.approx(due, abs=0.002)
+    assert critical_difference(4, 14) == pytest.approx(1.25, abs=0.005)
+
+
+@given(st.lists(st.integers(10, 50), min_size=1, max_size=7).map(sorted), st.integers(1, 30))
+def test_bars_are_beside_each_longest_run_of_ranks_that_differ_by_less(ranks: list[float], difference: float) -> None:
+    places = range(len(ranks))
+    near = {(one, other) for one in places for other in places if one < other and ranks[other] - ranks[one] < difference}
+    longest = {(one, other) for one, other in near
+               if not near & {(one - 1, other), (one, other + 1), (one - 1, other + 1)}}
+    assert alike(ranks, difference) == sorted(longest)
+
+
+def test_the_plot_of_ranks_has_a_panel_for_each_time(done: Callable[[str], Any]) -> None:
+    """Of ten instances: all agree that a is before b, and c the last. The critical difference is 2.343 times the root
+    of 2 · 3 · 4 / (6 · 2 · 10)."""
+    text = "instance,makespan,method,reference,time_factor\n" + "".join(
+        f"i{at},{100 + 10 * place + at},{method},100,{factor}\n" for factor in (10, 30) for at in range(10)
+        for place, method in enumerate("abc"))
+    first, second = reports.ranks(done(text), None).axes
+    assert first.get_title() == "time factor 10, 10 instances" and second.get_title() == "time factor 30, 10 instances"
+    dots, *bars = [line for line in first.lines if line.get_marker() in ("o", "None")]
+    assert list(dots.get_xdata()) == [1, 2, 3] and list(dots.get_ydata()) == [0, 1, 2]
+    ends = [tuple(bar.get_ydata()) for bar in bars if bar.get_linewidth() == 3]
+    assert ends == [(-0.2, 1.2), (0.8, 2.2)], "a and b, b and c, and not a and c"
+    names = [label.get_text() for label in first.get_yticklabels()]
+    assert names == [f"critical difference {2.343 * math.sqrt(12 / 60):.2f}", "a", "b", "c"]
+    assert reports.ranks(done("instance,makespan,method,reference\na,103,m,100\n"), None) is None
+
+
+def test_performance_profiles_are_shares_of_instances(done: Callable[[str], Any]) -> None:
+    """Of the means of their seeds: a is the shortest on i (by 10 %) and k (by 20 %), b on j (by 5 %); on l they are
+    equal, and 0."""
+    spans = {("i", "a"): (99, 101), ("i", "b"): (110, 110), ("j", "a"): (210, 210), ("j", "b"): (200, 200),
+             ("k", "a"): (100, 100), ("k", "b"): (115, 125), ("l", "a"): (0, 0), ("l", "b"): (0, 0)}
+    text = "instance,makespan,method,reference,seed\n" + "".join(
+        f"{name},{span},{method},100,{seed}\n" for (name, method), pair in spans.items() for seed, span in enumerate(pair))
+    axis, _ = reports.profile(done(text), None).axes
+    a, b = axis.lines
+    assert [line.get_label() for line in (a, b)] == ["a", "b"] and axis.get_title() == "4 instances"
+    for line, shares in ((a, {0: 0.75, 4.9: 0.75, 5: 1}), (b, {0: 0.5, 9.9: 0.5, 10: 0.75, 19.9: 0.75, 20: 1})):
+        x, y = line.get_xdata(), line.get_ydata()
+        assert {at: y[[*np.flatnonzero(x <= at)][-1]] for at in shares} == shares
+        assert line.get_drawstyle() == "steps-post" and max(x) == 20
+    assert reports.profile(done(text.replace(",a,", ",b,")), None) is None, "one method"
+
+
 TEXTS = {"gap": "Gap to the bound: mean, and range over the seeds; gap to the lower bound, %; jobs×machines",
          "rpd": "Relative percentage deviation: mean, and range over the seeds; RPD, %; jobs×machines",
          "seconds": "Mean relative percentage deviation by time; RPD, %; processor time, s; method",
          "time": "processor time per table cell, ns; jobs×machines; and maximum", "differences": "intervals of 95 %",
+         "ranks": "average rank, 1 is the shortest; 1,000 rounds, 2 instances",
+         "profile": "Performance profile; share of the instances; mean makespan above the shortest, %; setting",
          "trajectory": "Mean relative percentage deviation during the search; mean RPD, %; processor time, s; setting",
          "target": "Time to target: runs that have reached it; share of the runs; processor time, s; setting"}
 

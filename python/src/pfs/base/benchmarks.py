@@ -5,6 +5,7 @@ import csv
 import functools
 import importlib.resources
 import re
+from typing import NamedTuple
 
 # A file's name, its ending, and the number of a block.
 NAME = re.compile(r"(.*?)(?:\.[a-z][a-z0-9]*)?(?:[: ]([0-9]+))?", re.DOTALL)
@@ -80,3 +81,33 @@ def taillard_rows() -> tuple[tuple[str, int, int, int, int, int], ...]:
     text = importlib.resources.files("pfs").joinpath("taillard.csv").read_text("utf-8")
     return tuple((name, int(jobs), int(machines), int(seed), int(lower), int(upper))
                  for name, jobs, machines, seed, lower, upper, _ in list(csv.reader(text.splitlines()))[1:])
+
+
+class Best(NamedTuple):
+    """The shortest order known to pfs of one of Taillard's instances: its makespan, a proved bound, the nodes of the
+    proof from this order, the method, seed and rounds that found it, as far as they are known, and the jobs, counted
+    from 1."""
+
+    instance: str
+    makespan: str
+    bound: str
+    nodes: str
+    method: str
+    seed: str
+    rounds: str
+    order: str
+
+
+def best_in(text: str) -> list[Best]:
+    """Return the rows of a table of orders."""
+    first, *rows = [*csv.reader(text.splitlines())] or [[]]
+    if tuple(first) != Best._fields:
+        raise ValueError(f"the first line must be {','.join(Best._fields)}")
+    return [Best(*row) for row in rows]
+
+
+@functools.cache
+def taillard_best() -> dict[str, Best]:
+    """Return the shortest orders known to pfs, by the instances' names."""
+    text = importlib.resources.files("pfs").joinpath("taillard_orders.csv").read_text("utf-8")
+    return {row.instance: row for row in best_in(text)}

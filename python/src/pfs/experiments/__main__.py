@@ -70,6 +70,8 @@ ARGUMENTS: list[tuple[str, str, dict[str, Any]]] = [
                            "help": "the name of a column, as order=\"Best found\""}),
     ("audit", "--dry-run", {"action": "store_true", "help": "print how each column and instance is read"}),
     ("audit", "--csv", {"metavar": "CSV", "help": "write the verdict on each order"}),
+    ("audit", "--best", {"metavar": "FILE", "help": "a table of the best orders of Taillard's instances, such as "
+                         "taillard_orders.csv of the package: put shorter ones into it"}),
     ("report", "--format", {"choices": ("png", "svg", "pdf"), "default": "png", "help": "the format of the plots"}),
     ("report", "--reference", {"metavar": "CSV", "help": "a CSV with instance, makespan and source"}),
     ("report", "--width", {"metavar": "INCHES", "type": inches, "help": "the width of the plots, in inches"}),

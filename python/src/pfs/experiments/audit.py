@@ -12,13 +12,14 @@ from pfs.audits.audit import Audited, Row as AuditedRow, Unclear, audited_of, ro
 from pfs.audits.heads import ROLES
 from pfs.audits.shelf import Shelf
 from pfs.audits.supplements import sheet_of
+from pfs.base.benchmarks import Best, best_in
 from pfs.base.cells import text_cell
 from pfs.base.faults import Fault, cell_name
 from pfs.experiments import ExperimentError, Options, csv_text, folders, plain
 from pfs.experiments.plan import Row
 from pfs.experiments.run import path_cell
 from pfs.files.instances import read, read_order
-from pfs.shops.instance import Instance
+from pfs.shops.instance import Instance, taillard_name
 
 
 def verdicts(table: Any, shops: Any, layout: str | None = None, first: int | None = None,
@@ -52,6 +53,8 @@ def audit(args: Options) -> int:
     if args.csv:
         rows = [[text_cell(cell) if isinstance(cell, str) else cell for cell in row] for row in found]
         folders.write_text(args.csv, csv_text([["line", *Audited._fields[1:]], *rows]))
+    if args.best:
+        keep_best(args, columns, found)
     for row in found:
         if row.why:
             sheet, name = f"{sheet_of(row.sheet)}, " if row.sheet else "", f"{row.instance} {row.method}".strip()
@@ -67,6 +70,30 @@ def audit(args: Options) -> int:
           + (f"; {unclear} row{'s are' if unclear > 1 else ' is'} unclear, and not audited" if unclear else "")
           + (f"; {figures} RPD{'s or means are' if figures > 1 else ' or mean is'} wrong" if figures else ""))
     return 1 if wrong or figures else 2 if unclear else 0
+
+
+def keep_best(args: Options, columns: Mapping[str, str], found: list[Audited]) -> None:
+    """Puts each valid order that is shorter than the one of its instance into a table of Taillard's instances, and
+    prints it. Its bound stays; who proves it optimal adds the nodes."""
+    try:
+        best = {row.instance: row for row in best_in(pathlib.Path(args.best).read_text("utf-8"))}
+        shelf, tables, _ = understood(args.table, args.instances or (), args.layout, columns)
+    except ValueError as error:
+        raise ExperimentError(f"{args.best}: {error}") from None
+    valid = {(row.sheet, row.row) for row in found if row.valid}
+    rows = [row for given in tables for row in rows_of(given, shelf)
+            if isinstance(row, AuditedRow) and (given.sheet, row.at) in valid]
+    for row in rows:
+        known = best.get(taillard_name(row.shop))
+        if known is None:
+            continue
+        jobs = [number - min(row.numbers) for number in row.numbers]
+        makespan = row.shop.makespan(jobs)
+        if makespan < int(known.makespan):
+            best[known.instance] = Best(known.instance, str(makespan), known.bound, "", text_cell(row.method), "", "",
+                                        " ".join(str(job + 1) for job in jobs))
+            print(plain(f"{args.best}: {known.instance}: {makespan}, not {known.makespan}"))
+    folders.write_text(args.best, csv_text([Best._fields, *best.values()]))
 
 
 def print_understood(args: Options, columns: Mapping[str, str]) -> int:

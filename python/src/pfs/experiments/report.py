@@ -40,7 +40,7 @@ GREATEST = {"jobs": 10 ** 6, "machines": 10 ** 6, "rounds": 10 ** 9, "take": 10 
 LEAST, WHOLE = {"gap_percent": -100, "rpd": -100}, list(GREATEST)[:9]
 NUMBER = r" *-?[0-9]+(?:\.[0-9]*)?(?:[eE][+-]?[0-9]{1,3})? *"
 # The decimals of the columns of tables.
-DECIMALS = {"mean_seconds": "{:.4f}", "mean_rank": "{:.2f}", "time_factor": "{:g}", "p": "{:.4g}", "p_holm": "{:.4g}",
+DECIMALS = {"mean_seconds": "{:.4f}", "mean_rank": "{:.2f}", "critical_difference": "{:.2f}", "time_factor": "{:g}", "p": "{:.4g}", "p_holm": "{:.4g}",
             **dict.fromkeys(("makespan", "best", "mean", "deviation"), "{:.15g}")}
 LATEX = {"\\": r"\textbackslash{}", "~": r"\textasciitilde{}", "^": r"\textasciicircum{}", "×": r"$\times$",
          "<": r"\textless{}", ">": r"\textgreater{}", "|": r"\textbar{}", '"': "''",
@@ -387,7 +387,8 @@ def plot(done: pd.DataFrame, shared: pd.DataFrame, folder: pathlib.Path, ending:
     figures = {"gap": by_rounds(done, "gap_percent", "gap to the lower bound, %", "Gap to the bound", width),
                "rpd": by_rounds(shared, "rpd", "RPD, %", "Relative percentage deviation", width),
                "seconds": by_seconds(shared, width), "time": cell_times(done, width),
-               "differences": differences(shared, width), **along(shared, width)}
+               "differences": differences(shared, width), "ranks": ranks(shared, width),
+               "profile": profile(shared, width), **along(shared, width)}
     for name, figure in figures.items():
         if figure is not None:
             if not titles:
@@ -533,8 +534,7 @@ def along(shared: pd.DataFrame, width: float | None) -> dict[str, Figure]:
             means.append(mean_way(ways, end).assign(panel=panel, **label))
             shares.append(reached(ways, target + 1e-9, end).assign(panel=f"{panel}: RPD of at most {target:.3f} %",
                                                                    **label))
-    styles = {name: {"color": colour(at / max(1, len(names) - 1)), "linestyle": ("-", "--", "-.", ":")[at % 4],
-                     "drawstyle": "steps-post"} for at, name in enumerate(names.values())}
+    styles = line_styles([*names.values()])
     found = {}
     for file, parts, y, title in (
             ("trajectory", means, "mean RPD, %", "Mean relative percentage deviation during the search"),
@@ -543,6 +543,24 @@ def along(shared: pd.DataFrame, width: float | None) -> dict[str, Figure]:
             points = pd.concat(parts)
             found[file] = by_time(panels(points, styles, 3, width, "processor time, s", y, title, "setting"), points)
     return found
+
+
+def profile(shared: pd.DataFrame, width: float | None) -> Figure | None:
+    """Draws the performance profiles of the settings of the same rounds or time factor."""
+    points = statistics.profiles(shared)
+    if points.empty:
+        return None
+    figure = panels(points, line_styles(list(points["label"].unique())), 3, width,
+                    "mean makespan above the shortest, %", "share of the instances", "Performance profile",
+                    "setting")
+    scale(figure.axes[0], 0, points["x"].max(), "{:g}".format, "linear")
+    return figure
+
+
+def line_styles(names: list[str]) -> dict[str, dict[str, Any]]:
+    """Returns the steps by which each of these settings is drawn."""
+    return {name: {"color": colour(at / max(1, len(names) - 1)), "linestyle": ("-", "--", "-.", ":")[at % 4],
+                   "drawstyle": "steps-post"} for at, name in enumerate(names)}
 
 
 def mean_way(ways: list[tuple[Any, Any]], end: float) -> pd.DataFrame:
@@ -628,5 +646,36 @@ def differences(shared: pd.DataFrame, width: float | None) -> Figure | None:
     figure.supxlabel(wrapped(f"RPD minus that of {first}, %" if found["first"].nunique() == 1 else
                              "RPD minus that of the first setting, %", width - 0.4))
     figure.suptitle(wrapped("Mean differences by instance, with confidence intervals of 95 %",
+                            width - 0.4))
+    return figure
+
+
+def ranks(shared: pd.DataFrame, width: float | None) -> Figure | None:
+    """Draws the average rank of each setting, a panel for each group of three or more that can be compared, the
+    critical difference, and a bar beside each longest run of settings that don't differ by it."""
+    found = statistics.ranked(shared)
+    if found.empty:
+        return None
+    width, groups = width or 6.5, [own for _, own in found.groupby("group")]
+    settings = [list(own[SETTING].itertuples(index=False, name=None)) for own in groups]
+    lines = [[wrapped(shown(name), 0.4 * width) for name in setting_names(each)] for each in settings]
+    heights = [0.7 + HIGH * sum(text.count("\n") + 1.5 for text in texts) for texts in lines]
+    figure = Figure(figsize=(width, 0.8 + sum(heights)), layout="constrained")
+    axes = figure.subplots(len(groups), squeeze=False, height_ratios=heights)[:, 0]
+    for axis, own, each, texts in zip(axes, groups, settings, lines):
+        means, critical = own["mean_rank"].tolist(), own["critical_difference"].iloc[0]
+        axis.plot(means, range(len(own)), "o", color=colour(0.3), zorder=3)
+        bars = statistics.alike(means, critical)
+        for at, (first, last) in enumerate(bars):
+            axis.plot([len(own) + 0.15 * (1 + at)] * 2, [first - 0.2, last + 0.2], color="black", linewidth=3,
+                      solid_capstyle="butt", clip_on=False)
+        axis.errorbar([1 + critical / 2], [-0.8], xerr=[critical / 2], color="black", capsize=3)
+        axis.set_xlim(0.9, len(own) + 0.15 * (len(bars) + 1))
+        axis.set_ylim(len(own) - 0.5, -1.2)
+        axis.set_yticks([-0.8, *range(len(own))], [f"critical difference {critical:.2f}", *texts], fontsize=8)
+        axis.set_xticks(range(1, len(own) + 1))
+        axis.set_title(wrapped(statistics.group_name(each, own["instances"].iloc[0]), 0.5 * width))
+    figure.supxlabel("average rank, 1 is the shortest")
+    figure.suptitle(wrapped("Average ranks, with bars beside settings that don't differ at the level of 5 %",
                             width - 0.4))
     return figure

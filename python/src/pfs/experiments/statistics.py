@@ -2,6 +2,7 @@
 from __future__ import annotations
 
 import itertools
+import math
 from typing import Any
 
 import numpy as np
@@ -24,7 +25,9 @@ NOTE = ("Compared are settings of the same rounds or time factor, on the instanc
         "shorter than one of the other on the same instance, as a mean over the instances; ties count half.")
 
 RANKS = ("Average ranks of the settings of the same rounds or time factor, which are a group, on the instances that "
-         "all have: the shortest mean makespan has rank 1, and equal ones the mean of their ranks. p: Friedman's test.")
+         "all have: the shortest mean makespan has rank 1, and equal ones the mean of their ranks. p: Friedman's test. "
+         "Critical difference: two settings whose average ranks differ by less don't differ at the level of 5 % "
+         "(Nemenyi's test).")
 
 
 def common(runs: pd.DataFrame) -> tuple[pd.DataFrame, dict[Any, list[str]]]:
@@ -86,9 +89,53 @@ def ranked(shared: pd.DataFrame) -> pd.DataFrame:
     for number, group in enumerate((each for each in groups if len(each) > 1 and each.shape[1] > 2), 1):
         all_tied = (group.nunique(axis=1) == 1).all()
         p = 1.0 if all_tied else scipy.stats.friedmanchisquare(*group.to_numpy().T).pvalue
-        rows += [{"group": number, **dict(zip(SETTING, setting)), "instances": len(group), "mean_rank": rank, "p": p}
+        critical = critical_difference(group.shape[1], len(group))
+        rows += [{"group": number, **dict(zip(SETTING, setting)), "instances": len(group), "mean_rank": rank, "p": p,
+                  "critical_difference": critical}
                  for setting, rank in group.rank(axis=1).mean().sort_values(kind="stable").items()]
     return pd.DataFrame(rows)
+
+
+def critical_difference(settings: int, instances: int) -> float:
+    """Returns the difference of two average ranks from which on they differ at the level of 5 %, by Nemenyi's test
+    (Demšar 2006).
+
+    >>> round(critical_difference(4, 14), 3)
+    1.253
+    """
+    quantile: float = scipy.stats.studentized_range.ppf(0.95, settings, math.inf)
+    return quantile / 2 ** 0.5 * (settings * (settings + 1) / (6 * instances)) ** 0.5
+
+
+def alike(ranks: list[float], difference: float) -> list[tuple[int, int]]:
+    """Returns the first and the last of each longest run of ascending ranks that differ by less than this.
+
+    >>> alike([1.2, 1.5, 2.9, 3.4, 4.0], 1.5), alike([1, 3], 1.5)
+    ([(0, 1), (1, 2), (2, 4)], [])
+    """
+    ends = [max(at for at, rank in enumerate(ranks) if rank - first < difference) for first in ranks]
+    return [(at, end) for at, end in enumerate(ends) if end > at and (at == 0 or ends[at - 1] < end)]
+
+
+def profiles(shared: pd.DataFrame) -> pd.DataFrame:
+    """Returns the performance profile (Dolan and Moré 2002) of each setting among those that can be compared: the share
+    of the instances on which its mean makespan is at most `x` percent above the shortest one of these settings."""
+    table, points = shared.pivot_table(index="instance", columns=SETTING, values="makespan").round(9), []
+    for settings in comparable(table).values():
+        group = table[settings].dropna()
+        shortest = group.min(axis=1)
+        above = (100 * group.sub(shortest, axis=0).div(shortest, axis=0)).where(group.ne(shortest, axis=0), 0)
+        for setting, name in zip(settings, setting_names(settings)) if min(group.shape) > 1 else ():
+            x = np.array([0, *np.sort(above[setting]), max(above.to_numpy().max(), 0.1)])
+            y = [(above[setting] <= limit).mean() for limit in x]
+            points.append(pd.DataFrame({"panel": group_name(settings, len(group)), "label": name, "x": x, "y": y}))
+    return pd.concat(points) if points else pd.DataFrame()
+
+
+def group_name(settings: list[Any], instances: int) -> str:
+    """Returns what a group of settings is compared on."""
+    budgets = {*map(budget_of, settings)} - {UNKNOWN}
+    return ", ".join([*map(budget_name, budgets), f"{instances} instances"])
 
 
 def paired(shared: pd.DataFrame) -> pd.DataFrame:

@@ -458,16 +458,15 @@ def generate(jobs: int, machines: int, seed: int) -> Instance:
     jobs = checked_int(jobs, "jobs", 1, c.MOST_JOBS)
     machines = checked_int(machines, "machines", 1, c.MOST_MACHINES)
     seed = checked_int(seed, "seed", 1, c.MOST_GENERATOR_SEED)
-    times = np.empty((jobs, machines), dtype=np.uint32)
-    c.done(c.library.pfs_generate(jobs, machines, seed, times.ctypes.data, times.size))
-    return Instance(times, seed=seed)
+    return Instance(generated(jobs, machines, seed), seed=seed)
 
 
 def taillard(number: int) -> Instance:
     """Return one of the 120 permutation flow shop instances of Taillard's benchmark (1993), with its seed. ``lower`` is
     the published lower bound, and ``upper`` the best known makespan (Taillard's list of best known bounds; of ``ta056``
     that of Mezmaz, Melab and Talbi 2007). Both are published numbers; they aren't proved here. Some of those with 100
-    jobs and more on 20 machines, or with 200 and more, may have been lowered since.
+    jobs and more on 20 machines, or with 200 and more, may have been lowered since. ``best`` has the shortest order
+    known to pfs, and whether it is proved optimal.
 
     Parameters
     ----------
@@ -479,6 +478,8 @@ def taillard(number: int) -> Instance:
     >>> shop = pfs.taillard(1)
     >>> shop, shop.lower, shop.upper
     (<Instance ta001: 20 jobs, 5 machines>, 1232, 1278)
+    >>> shop.best.makespan, shop.best.optimal
+    (1278, True)
     """
     name, jobs, machines, seed, lower, upper = taillard_rows()[checked_int(number, "number", 1, 120) - 1]
     return Instance(generate(jobs, machines, seed).times, name=name, seed=seed, lower=lower, upper=upper)

@@ -13,6 +13,7 @@ import numpy as np
 import numpy.typing as npt
 
 from pfs.base.atomic import atomic_write
+from pfs.base.benchmarks import taillard_best, taillard_rows
 from pfs.base.cells import html_table
 from pfs.base.names import frame_names, is_frame, names_of
 from pfs.base.units import CLOCK, amount
@@ -58,6 +59,13 @@ class Check(NamedTuple):
     makespan: int | None
     bound: int
     fault: str
+
+
+def generated(jobs: int, machines: int, seed: int) -> npt.NDArray[np.uint32]:
+    """Return the times of an instance of Taillard's generator."""
+    times = np.empty((jobs, machines), dtype=np.uint32)
+    c.done(c.library.pfs_generate(jobs, machines, seed, times.ctypes.data, times.size))
+    return times
 
 
 class Instance:
@@ -159,6 +167,19 @@ class Instance:
     def n_machines(self) -> int:
         """The same as ``machines``."""
         return self.machines
+
+    @property
+    def best(self) -> Solution | None:
+        """The shortest order known to pfs of one of Taillard's instances, with a proved bound; None for another
+        instance. An instance is Taillard's if its seed is, and its times. ``optimal`` says whether the order is proved
+        optimal. The makespan is computed here."""
+        known = taillard_best().get(taillard_name(self))
+        if known is None:
+            return None
+        order = [int(job) - 1 for job in known.order.split()]
+        best = Solution(order, self.makespan(order), 0, self.machines)
+        best.bound = int(known.bound)
+        return best
 
     def __repr__(self) -> str:
         return f"<Instance {self.name + ': ' if self.name else ''}{self.jobs} jobs, {self.machines} machines>"
@@ -745,3 +766,11 @@ def digest_of(shop: Instance) -> str:
     names = shop.job_names, shop.machine_names, shop.unit, shop.decimals
     text = repr(shop.times.shape).encode() + shop._data + (repr(names).encode() if any(names) else b"")
     return hashlib.sha256(text).hexdigest()
+
+
+def taillard_name(shop: Instance) -> str:
+    """Return the name of Taillard's instance that has the seed and the times of this one, or an empty text."""
+    for name, *sizes_and_seed, _, _ in taillard_rows():
+        if sizes_and_seed == [shop.jobs, shop.machines, shop.seed]:
+            return name * bool((generated(*sizes_and_seed) == shop.times).all())
+    return ""
