@@ -784,7 +784,29 @@ def test_a_run_for_irace(experiment: Experiment, top: pathlib.Path) -> None:
     assert bad.status != 0 and "pfs: " in bad.stderr and bad.stdout == ""
     scenario = (top / "experiments" / "irace.txt").read_text()
     named = re.findall(r'^(?:targetRunner|parameterFile) = "(.*)"$', scenario, re.MULTILINE)
-    assert len(named) == 2 and all((top / "experiments" / name).is_file() for name in named)
+    named += re.findall(r"--(?:target-runner|parameter-file) ([\w.-]+)", scenario)
+    assert len(named) == 6 and all((top / "experiments" / name).is_file() for name in named)
+    assert "out/taillard" not in scenario, "the benchmark isn't for tuning"
+
+
+def test_a_run_for_irace_of_iterated_greedy_and_of_a_program(experiment: Experiment, top: pathlib.Path) -> None:
+    """Both print a makespan of an order. A wrong order of the program is an error, and so are values that the search
+    rejects."""
+    shop = pfs.read(experiment.folder / "shops" / "a", "taillard")
+    env = {**os.environ, **plainly.environment()}
+    words = ["/usr/bin/python3", str(top / "experiments" / "target-iterated.py"), "1", "2", "7", "shops/a"]
+    got = run_tool([*words, "--take", "4", "--partial", "1", "--temperature", "0.5"], experiment.folder, env=env)
+    assert got.status == 0 and shop.bound() <= int(got.stdout) <= shop.neh().makespan
+    bad = run_tool([*words, "--take", "4", "--partial", "1", "--temperature", "-1"], experiment.folder, env=env)
+    assert bad.status != 0 and bad.stdout == "" and "temperature must be" in bad.stderr
+    words[1] = str(top / "experiments" / "target-command.py")
+    jobs = " ".join(str(job + 1) for job in range(shop.jobs))
+    for order, status, printed in ((jobs, 0, f"{shop.makespan(range(shop.jobs))}\n"), (jobs[2:], 1, "")):
+        write_script(experiment.folder / "mine", f'#!/bin/sh\necho "$@" > words\necho start\necho "{order}"\n')
+        got = run_tool([*words, "--take", "4"], experiment.folder, env=env)
+        assert (got.status, got.stdout) == (status, printed), got
+        seconds = 0.0015 * shop.jobs * shop.machines
+        assert (experiment.folder / "words").read_text() == f"shops/a 7 {seconds} --take 4\n"
 
 
 # In this many seconds of processor time, or any: what a line or a program prints and how many processes it leaves, or

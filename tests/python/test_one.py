@@ -1,5 +1,6 @@
 """The functions of `one`, which makes the runs of an experiment in a folder of copies, in this process: what it prints
 of the searches of the program and of the library, and of commands in whose place a test says what they print."""
+import ast
 import json
 import os
 import pathlib
@@ -124,6 +125,25 @@ def test_a_command_gets_the_values_of_its_run(copies: pathlib.Path, monkeypatch:
         one.by_command(["m", "{instance}", "{name}", "x{jobs}x{machines}", "{seed}", "{seconds}", "{block}", "{"],
                        RUN._replace(limit=limit))
     assert [copy.exists() for copy in seen] == [False, False]
+
+
+@pytest.mark.parametrize(("printed", "left_out"), [
+    ("print('start', flush=True)", 0.2), ("print('start')", 0), ("print('start\\n1 2 3', flush=True)", 0),
+    ("print('begin', flush=True)", 0), ("burn(0.6); print('start', flush=True)", 0.5)])
+def test_the_time_before_the_line_start_does_not_count(printed: str, left_out: float) -> None:
+    """At most half a second of it, and not if the line comes with a later one, as from a buffer."""
+    program = ("import time\ndef burn(seconds):\n    end = time.process_time() + seconds\n"
+               f"    while time.process_time() < end: pass\nburn(0.2)\n{printed}\nburn(0.3)\n"
+               "print('makespan 10 2 1 3'); import os; print('all', time.process_time())")
+    code = ("import sys; from pfs.experiments import one\n"
+            f"*found, points = one.run_command([sys.executable, '-I', '-S', '-c', {program!r}], '.', None)\n"
+            "print((*found, [(*point,) for point in points]))")
+    done = subprocess.run([sys.executable, "-c", code], env=plainly.environment(), capture_output=True, text=True,
+                          check=True)
+    text, spent, left, [(at, span, order)] = ast.literal_eval(done.stdout)
+    whole = float(text.split()[-1])
+    assert (span, order, left) == (10, "2 1 3", 0) and "start" not in text
+    assert whole - left_out - 0.15 < spent < whole - left_out + 0.15 and 0.2 < at <= spent
 
 
 # What is printed of the runs

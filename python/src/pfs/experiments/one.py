@@ -238,7 +238,8 @@ def order_of(text: str) -> tuple[str, list[str]]:
 
 def run_command(words: list[str], folder: str, seconds: float | None) -> tuple[str, float, int, list[Point]]:
     """Returns what a program prints on standard output, its processor seconds with those of all processes that it has
-    started, how many of them it has left, and its trajectory. These are killed when it ends. A program that takes too
+    started, how many of them it has left, and its trajectory. If its first line is `start`, the time before it, up to
+    `START`, doesn't count. Its processes are killed when it ends. A program that takes too
     long, prints too much or fails is killed with all of them."""
     before, end = child_seconds(), math.inf if seconds is None else time.monotonic() + 10 * TIMES * seconds + PATIENCE
     set_process(PR_SET_CHILD_SUBREAPER, 1)
@@ -272,8 +273,9 @@ def run_command(words: list[str], folder: str, seconds: float | None) -> tuple[s
     if child.returncode > 0:
         raise Failed(f"exit {child.returncode}, {' '.join(said[-1].split())[:200]}")
     printed.take(b"\n" if printed.line else b"")
-    return printed.text.decode(errors="replace"), spent, left, [
-        point._replace(seconds=min(point.seconds - before, spent)) for point in printed.points]
+    start = min(max(printed.start - before, 0), START)
+    return printed.text.decode(errors="replace"), max(spent - start, 0), left, [
+        point._replace(seconds=max(min(point.seconds - before, spent) - start, 0)) for point in printed.points]
 
 
 class Printed:
@@ -285,6 +287,8 @@ class Printed:
         self.out, self.open = child.stdout, [child.stdout, child.stderr]
         self.text, self.line, self.said = bytearray(), b"", b""
         self.points: list[Point] = []
+        # Whether and when it printed that it has started.
+        self.has_started, self.start = False, 0.0
 
     def is_too_much(self) -> bool:
         return len(self.text) + len(self.line) > MOST_BYTES or len(self.points) > MOST_POINTS
@@ -293,7 +297,11 @@ class Printed:
         """Takes the next part of the output."""
         *lines, self.line = (self.line + part).split(b"\n")
         for line in lines:
-            if point := POINT.fullmatch(line.strip()):
+            if line.strip() == b"start" and not (self.has_started or self.points or self.text):
+                self.has_started = True
+                # With more after it, it has waited in a buffer.
+                self.start = seconds_so_far() if part.count(b"\n") == 1 and not self.line else 0.0
+            elif point := POINT.fullmatch(line.strip()):
                 self.points.append(Point(seconds_so_far(), int(point[1]), point[2].decode(errors="replace")))
             else:
                 self.text += line + b"\n"

@@ -60,6 +60,9 @@ LEAST_SECONDS = 1e-9
 WAY = re.compile(r"[0-9]{1,9}(?:\.[0-9]{1,9})?:[0-9]{1,18}(?: [0-9]{1,9}(?:\.[0-9]{1,9})?:[0-9]{1,18})*")
 WAY_POINTS = 300
 
+# The share of the time of a run after which a first order is late.
+LATE = 0.05
+
 # Figures, axes and colours of matplotlib, which has no types.
 Axis: TypeAlias = Any
 
@@ -75,6 +78,7 @@ def report(args: Options) -> int:
         raise ExperimentError("published means are columns beside the runs of another CSV")
     runs, note, basis = read([path for path in args.csv if path not in means], args.reference)
     done = runs.dropna(subset=["makespan"])
+    note += late_starts(done)
     shared, lacking = in_common(done[done["rpd"].notna()])
     compared = statistics.compared(done)
     args.folder.mkdir(parents=True, exist_ok=True)
@@ -146,6 +150,16 @@ def read(paths: list[str], reference_path: str | None) -> tuple[pd.DataFrame, st
         names = [f"{markdown(name)} {span:.15g} ({reference:.0f})" for name, span, reference in below.itertuples()]
         note += f"\nBelow the reference: {listed(names)}."
     return runs.fillna(dict.fromkeys(GROUP, -1)), note, basis
+
+
+def late_starts(done: pd.DataFrame) -> str:
+    """Returns a sentence on each method whose first order comes after `LATE` of the time of a run, in the median."""
+    runs = done[done["way"].notna() & (done["time_factor"] > 0)]
+    limits = runs["jobs"] * runs["machines"] / 2 * runs["time_factor"] / 1000
+    shares = runs["way"].map(lambda way: way[0][0]) / limits
+    late = shares.groupby(runs["method"]).median()
+    return "".join(f"\nThe first order of {markdown(name)} comes after {100 * share:.0f} % of the time: its start counts "
+                   "as search." for name, share in late[late > LATE].items())
 
 
 def orders_of(rows: list[Row]) -> tuple[list[str], list[float]]:

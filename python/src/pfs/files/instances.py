@@ -17,7 +17,7 @@ from pfs.base.names import is_frame
 from pfs.base.order_text import numbers_in
 from pfs.binding import library as c
 from pfs.binding.validate import Order, Times, checked_int, layout_number
-from pfs.shops.instance import Instance
+from pfs.shops.instance import Instance, generated
 from pfs.shops.solution import Solution
 
 Source: TypeAlias = "str | os.PathLike[str] | IO[bytes]"
