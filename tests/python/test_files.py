@@ -24,6 +24,7 @@ from pfs.files import state as _state
 from pfs.plan.orders import order_in
 from support import files, plainly
 from support.plainly import written
+from support.tools import TOP
 
 TITLE = files.TITLE.decode()
 THREE = TITLE + "3 2 7 9 8\nprocessing times :\n3 2 4\n2 5 1\n"
@@ -356,6 +357,31 @@ def test_taillards_instances_have_audited_orders() -> None:
         if best.optimal and int(row.nodes) < 1000:
             assert shop.optimum(60, start=best, nodes=int(row.nodes)).optimal, "not by so many nodes"
     assert number == 120
+
+
+def test_the_page_has_the_best_orders() -> None:
+    """Its table, the number of optima, and what is below the list."""
+    rows, page = [*benchmarks.taillard_best().values()], (TOP / "docs" / "TAILLARD.md").read_text()
+    cells = [f"**{row.makespan}**" if row.makespan == row.bound else f"{row.makespan} ≥ {row.bound}" for row in rows]
+    for at in range(0, 120, 10):
+        shop = pfs.taillard(at + 1)
+        line = " | ".join([f"{shop.jobs}×{shop.machines}", rows[at].instance, *cells[at:at + 10]])
+        assert f"\n| {line} |\n" in page
+    below = [f"{row.instance} {row.makespan} ({shop.upper})" for at, row in enumerate(rows, 1)
+             for shop in [pfs.taillard(at)] if int(row.makespan) < shop.upper]
+    assert f": {', '.join(below)}.\n" in page
+    assert f"\n{sum(row.makespan == row.bound for row in rows)} of them are proved optimal." in page
+
+
+def test_the_best_orders_of_iterated_greedy_are_found_again() -> None:
+    """With the seed and the rounds of the file; those that take few."""
+    found = 0
+    for number, row in enumerate(benchmarks.taillard_best().values(), 1):
+        if row.method == "iterated-greedy" and int(row.rounds) * pfs.taillard(number).jobs < 20_000:
+            again = pfs.taillard(number).solve(int(row.rounds), method="iterated-greedy", seed=int(row.seed))
+            assert " ".join(str(job + 1) for job in again.order) == row.order
+            found += 1
+    assert found > 20
 
 
 def test_other_instances_have_no_best_order(tmp_path: pathlib.Path) -> None:

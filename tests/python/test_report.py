@@ -630,6 +630,18 @@ def test_trajectories_have_their_mean_and_the_share_that_reaches_the_target(done
     assert reports.along(done(WAY_HEAD + "i,20,5,a,1,104,100,1,\nj,20,5,a,1,0,0,1,1:0\n"), None) == {}
 
 
+def test_a_late_first_order_is_named(done: Callable[[str], Any]) -> None:
+    """In the median of the runs, of n(m/2) milliseconds times the factor: half a second here. Runs without a trajectory
+    or a time don't count."""
+    head = "instance,jobs,machines,method,seed,makespan,reference,seconds,time_factor,trajectory\n"
+    rows = {"late_": (0.02, 0.03, 0.4), "in time": (0.025, 0.4, 0.01), "no way": ("", "", "")}
+    text = head + "".join(f"i,20,5,{name},{seed},101,100,0.5,10,{first and f'{first}:101'}\n"
+                          for name, firsts in rows.items() for seed, first in enumerate(firsts))
+    text += "".join(f"i,20,5,no time,{seed},101,100,0.5,,0.4:101\n" for seed in range(3))
+    assert reports.late_starts(done(text)) == (
+        "\nThe first order of late\\_ comes after 6 % of the time: its start counts as search.")
+
+
 # The layout of plots
 
 def points_of(panels: int, labels: int, least: float = 0) -> Any:
