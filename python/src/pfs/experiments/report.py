@@ -666,7 +666,7 @@ def differences(shared: pd.DataFrame, width: float | None) -> Figure | None:
 
 def ranks(shared: pd.DataFrame, width: float | None) -> Figure | None:
     """Draws the average rank of each setting, a panel for each group of three or more that can be compared, the
-    critical difference, and a bar beside each longest run of settings that don't differ by it."""
+    critical difference, and a bar next to each longest run of settings that don't differ by it."""
     found = statistics.ranked(shared)
     if found.empty:
         return None
@@ -690,6 +690,6 @@ def ranks(shared: pd.DataFrame, width: float | None) -> Figure | None:
         axis.set_xticks(range(1, len(own) + 1))
         axis.set_title(wrapped(statistics.group_name(each, own["instances"].iloc[0]), 0.5 * width))
     figure.supxlabel("average rank, 1 is the shortest")
-    figure.suptitle(wrapped("Average ranks, with bars beside settings that don't differ at the level of 5 %",
+    figure.suptitle(wrapped("Average ranks, with bars next to settings that don't differ at the level of 5 %",
                             width - 0.4))
     return figure
