@@ -1,4 +1,4 @@
-"""A run for irace of a program of your own, whose name and words COMMAND has, followed by the values that irace chooses.
+"""A run for irace of your program, whose name and words COMMAND has, followed by the values that irace chooses.
 
 The program prints its order, as in a plan of experiments. The order is audited, and its makespan printed.
 

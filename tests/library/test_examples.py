@@ -59,8 +59,8 @@ def run(built: pathlib.Path, name: str, *words: str | pathlib.Path, cwd: pathlib
 
 
 def test_the_page_has_each_example() -> None:
-    names = {path.name for path in SOURCES} | {"neh.R", "neh.jl", "neh.rs", "neh_cffi.py", "pfs.hpp", "pfs.rs", "pfs_r.c",
-                                              "README.md"}
+    names = {path.name for path in SOURCES} | {"neh.R", "neh.jl", "neh.rs", "neh_cffi.py", "pfs.hpp", "pfs.rs",
+                                               "pfs_r.c", "README.md"}
     assert {path.name for path in EXAMPLES.iterdir()} == names
     assert set(re.findall(r"^`(\w+) ", PAGE, re.MULTILINE)) == {path.stem for path in SOURCES}
     assert all(len(path.read_text().splitlines()) <= 110 for path in SOURCES)
@@ -266,7 +266,8 @@ IN_JULIA = {"const uint32_t *": "Ptr{UInt32}", "uint32_t *": "Ptr{UInt32}", "uin
 def test_the_calls_in_julia_are_those_of_the_header() -> None:
     """Names and types of arguments and results, also where Julia isn't installed."""
     header = (EXAMPLES.parent / "lib" / "pfs.h").read_text()
-    calls = re.findall(r"@ccall PFS\.(\w+)\((.*?)\)::(Cint|Cvoid|Cstring)", (EXAMPLES / "neh.jl").read_text(), re.DOTALL)
+    example = (EXAMPLES / "neh.jl").read_text()
+    calls = re.findall(r"@ccall PFS\.(\w+)\((.*?)\)::(Cint|Cvoid|Cstring)", example, re.DOTALL)
     assert [name for name, _, _ in calls] == ["pfs_prepare", "pfs_neh", "pfs_release", "pfs_message"]
     for name, arguments, returned in calls:
         [(kind, words)] = re.findall(rf"^((?:\w+ )+\*?){name}\(([^)]*)\)", header, re.MULTILINE)

@@ -345,7 +345,7 @@ def test_taillards_instances_are_those_of_the_lists() -> None:
 
 
 def test_taillards_instances_have_audited_orders() -> None:
-    """Each is an order of all jobs with the makespan of the table, by plain definitions, and none is below the bound."""
+    """Each is an order of all jobs with the makespan of the table, by plain definitions, not below its bound."""
     for number, row in enumerate(benchmarks.taillard_best().values(), 1):
         shop, order = pfs.taillard(number), [int(job) - 1 for job in row.order.split()]
         best = shop.best

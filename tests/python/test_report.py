@@ -838,7 +838,7 @@ def test_critical_differences_are_those_of_tables() -> None:
 @given(st.lists(st.integers(10, 50), min_size=1, max_size=7).map(sorted), st.integers(1, 30))
 def test_bars_are_beside_each_longest_run_of_ranks_that_differ_by_less(ranks: list[float], difference: float) -> None:
     places = range(len(ranks))
-    near = {(one, other) for one in places for other in places if one < other and ranks[other] - ranks[one] < difference}
+    near = {(one, other) for one, other in itertools.combinations(places, 2) if ranks[other] - ranks[one] < difference}
     longest = {(one, other) for one, other in near
                if not near & {(one - 1, other), (one, other + 1), (one - 1, other + 1)}}
     assert alike(ranks, difference) == sorted(longest)
@@ -867,7 +867,8 @@ def test_performance_profiles_are_shares_of_instances(done: Callable[[str], Any]
     spans = {("i", "a"): (99, 101), ("i", "b"): (110, 110), ("j", "a"): (210, 210), ("j", "b"): (200, 200),
              ("k", "a"): (100, 100), ("k", "b"): (115, 125), ("l", "a"): (0, 0), ("l", "b"): (0, 0)}
     text = "instance,makespan,method,reference,seed\n" + "".join(
-        f"{name},{span},{method},100,{seed}\n" for (name, method), pair in spans.items() for seed, span in enumerate(pair))
+        f"{name},{span},{method},100,{seed}\n" for (name, method), pair in spans.items()
+        for seed, span in enumerate(pair))
     axis, _ = reports.profile(done(text), None).axes
     a, b = axis.lines
     assert [line.get_label() for line in (a, b)] == ["a", "b"] and axis.get_title() == "4 instances"

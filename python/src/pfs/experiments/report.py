@@ -40,7 +40,8 @@ GREATEST = {"jobs": 10 ** 6, "machines": 10 ** 6, "rounds": 10 ** 9, "take": 10 
 LEAST, WHOLE = {"gap_percent": -100, "rpd": -100}, list(GREATEST)[:9]
 NUMBER = r" *-?[0-9]+(?:\.[0-9]*)?(?:[eE][+-]?[0-9]{1,3})? *"
 # The decimals of the columns of tables.
-DECIMALS = {"mean_seconds": "{:.4f}", "mean_rank": "{:.2f}", "critical_difference": "{:.2f}", "time_factor": "{:g}", "p": "{:.4g}", "p_holm": "{:.4g}",
+DECIMALS = {"mean_seconds": "{:.4f}", "mean_rank": "{:.2f}", "critical_difference": "{:.2f}", "time_factor": "{:g}",
+            "p": "{:.4g}", "p_holm": "{:.4g}",
             **dict.fromkeys(("makespan", "best", "mean", "deviation"), "{:.15g}")}
 LATEX = {"\\": r"\textbackslash{}", "~": r"\textasciitilde{}", "^": r"\textasciicircum{}", "×": r"$\times$",
          "<": r"\textless{}", ">": r"\textgreater{}", "|": r"\textbar{}", '"': "''",
@@ -158,8 +159,8 @@ def late_starts(done: pd.DataFrame) -> str:
     limits = runs["jobs"] * runs["machines"] / 2 * runs["time_factor"] / 1000
     shares = runs["way"].map(lambda way: way[0][0]) / limits
     late = shares.groupby(runs["method"]).median()
-    return "".join(f"\nThe first order of {markdown(name)} comes after {100 * share:.0f} % of the time: its start counts "
-                   "as search." for name, share in late[late > LATE].items())
+    return "".join(f"\nThe first order of {markdown(name)} comes after {100 * share:.0f} % of the time: its start "
+                   "counts as search." for name, share in late[late > LATE].items())
 
 
 def orders_of(rows: list[Row]) -> tuple[list[str], list[float]]:

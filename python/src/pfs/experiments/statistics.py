@@ -25,9 +25,9 @@ NOTE = ("Compared are settings of the same rounds or time factor, on the instanc
         "shorter than one of the other on the same instance, as a mean over the instances; ties count half.")
 
 RANKS = ("Average ranks of the settings of the same rounds or time factor, which are a group, on the instances that "
-         "all have: the shortest mean makespan has rank 1, and equal ones the mean of their ranks. p: Friedman's test. "
-         "Critical difference: two settings whose average ranks differ by less don't differ at the level of 5 % "
-         "(Nemenyi's test).")
+         "all have: the shortest mean makespan has rank 1, and equal ones the mean of their ranks. Critical difference: "
+         "two settings whose average ranks differ by less don't differ at the level of 5 %, by Nemenyi's test. p: "
+         "Friedman's test.")
 
 
 def common(runs: pd.DataFrame) -> tuple[pd.DataFrame, dict[Any, list[str]]]:
@@ -103,8 +103,8 @@ def critical_difference(settings: int, instances: int) -> float:
     >>> round(critical_difference(4, 14), 3)
     1.253
     """
-    quantile: float = scipy.stats.studentized_range.ppf(0.95, settings, math.inf)
-    return quantile / 2 ** 0.5 * (settings * (settings + 1) / (6 * instances)) ** 0.5
+    quantile = float(scipy.stats.studentized_range.ppf(0.95, settings, math.inf))
+    return quantile * math.sqrt(settings * (settings + 1) / (12 * instances))
 
 
 def alike(ranks: list[float], difference: float) -> list[tuple[int, int]]:
