@@ -94,6 +94,8 @@ const FAULTS = [
   [/.*, which dates need: .*/, "Termine brauchen eine Einheit der Zeiten: min, h, s oder d"],
   [/^no job of the table is named.*/, "Kein Auftrag der Tabelle ist in dieser Reihenfolge."],
   [/.* needs "Work begins", .*/, "Bitte bei „Termine und Schichten“ den Arbeitsbeginn eintragen."],
+  [/^([\d,]+) times?( of formulas)? rounded to (\d) decimals?, by (\S+) at most (\(.*\))/,
+   "gerundete Zeiten: $1, auf Nachkommastellen: $3, höchstens um $4 $5"],
   [/^(the server (is busy|has too)|too many searches).*/, "der Server ist ausgelastet: bitte bald noch einmal"],
   [/^The token is missing or wrong.*/, "In der Adresse fehlt das Kennwort: bitte nach der ganzen Adresse fragen."],
 ];
