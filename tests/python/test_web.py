@@ -390,7 +390,7 @@ def test_a_workbook_is_planned_as_by_the_terminal(client: FlaskClient, tmp_path:
     """Its sheet `pfs`, units, sums, quantities, formulas, blanks and what is hidden count: the same plan, or the same
     faults."""
     choose, done = random.Random(3), Counter[str]()
-    for number in range(200):
+    for number in range(100):
         names = sorted({*choose.sample([*OPTIONS], choose.randint(0, 3)), *["begin"] * (number % 2)})
         rows = [[name, choose.choice(OPTIONS[name])] for name in names]
         cells = [1, 2.5, 3, 12] + ["1,5"] * choose.randint(0, 1) + ["-"] * (number % 9 == 0)
@@ -733,6 +733,15 @@ def test_an_order_is_read_of_what_was_downloaded(kind: str, client: FlaskClient)
     shop = {**SHOP, "jobs": ["table", "stool", "shelf", "box"]}
     for each, order in ((SHOP, ORDER), (shop, ["box", "table", "shelf"])):
         assert answer(client, "/api/order", {"shop": each, "content": content(path)}) == {"order": order}
+
+
+def test_a_schedule_that_says_what_has_happened_is_refused(client: FlaskClient) -> None:
+    """Its columns may be empty."""
+    for cell, status in (("x", 422), ("", 200)):
+        text = f"job;machine;start;end;begun;ended\nbox;saw;0;1;;{cell}\ntable;saw;1;4\n"
+        got = asked(client, "/api/order", {"shop": SHOP, "content": content(text)})
+        assert got.status_code == status and ("pfs-plan --now" in got.text) == (status == 422)
+        assert status == 422 or got.json == {"order": ["box", "table"]}
 
 
 def test_what_is_no_order_is_refused(client: FlaskClient) -> None:

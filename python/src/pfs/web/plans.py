@@ -162,13 +162,17 @@ def shop_from(given: dict[str, Any]) -> Instance:
 
 
 def order(given: dict[str, Any], folder: str) -> dict[str, list[str]]:
-    """The jobs of a table in the order of a file, as `pfs-plan --order` reads it."""
+    """The jobs of a table in the order of a file, as `pfs-plan --order` reads it. What has happened isn't left out in
+    silence."""
     shop, path = shop_from(given), pathlib.Path(folder, "order")
     path.write_bytes(content_from(given))
     try:
-        return {"order": [*map(shop.job_name, order_in(path, shop).jobs)]}
+        found = order_in(path, shop)
     except TableFault as fault:
         raise Wrong(fault.text) from None
+    if any("".join(row[column - 1:column]) for _, row in found.rows for column in found.columns.values()):
+        raise Wrong("what has begun and ended is planned by pfs-plan --now: leave these columns out to take the order")
+    return {"order": [*map(shop.job_name, found.jobs)]}
 
 
 # Plans
