@@ -335,7 +335,7 @@ def test_a_week_over_a_restart_and_two_servers(tmp_path: pathlib.Path) -> None:
 # Without a status the server isn't reached, as all of it while it is gone.
 CLOCK = """let time = 0;
 const ownWait = window.setTimeout, ownFetch = window.fetch;
-Object.assign(window, {waits: [], told: [], sent: [], said: [], isGone: false});
+Object.assign(window, {waits: [], told: [], sent: [], ended: [], said: [], isGone: false});
 Date.now = () => time;
 window.setTimeout = (call, wait = 0, ...given) => {
   const isLong = wait >= 300 && wait < 60_000;
@@ -347,7 +347,7 @@ window.fetch = async (path, given = {}) => {
   if (isGone) throw new TypeError();
   if (!path.startsWith("api/search")) return ownFetch(path, given);
   if (given.method === "POST") return Response.json({search: `S${sent.push(JSON.parse(given.body))}`});
-  if (given.method === "DELETE") return Response.json({});
+  if (given.method === "DELETE") return Response.json({}, {status: ended.push(path) && 200});
   const [[count, status, answer]] = told;
   told[0][0] -= 1;
   if (told[0][0] === 0) told.shift();
@@ -382,15 +382,19 @@ def test_a_search_survives_what_happens_to_the_server(page: Page) -> None:
         run("told.push(...arguments[0])", [[1, 200, best], gone, [1, 200, best], gone, [1, 404, {"error": "over"}],
                                            [1, 200, waiting], [121, 0, None]])
         page.click("#plan")
-        page.wait(lambda: run("return told.length === 0 && !desk.state.search"))
+        page.wait(lambda: run("return told.length === 0 && !desk.state.search") and page.one("#plan").is_enabled())
         assert run("return desk.state.doc.plan.order") == order
         sent = run("return sent.map(each => [each.order, each.seconds])")
         assert sent == [[None, 10], [order, 8]], "for what is left of 10 s"
         said, silent = run("return said"), "The server doesn't answer. It is asked again."
         assert said == ["", "", *[silent] * 118, silent, "", *[silent] * 118, silent, silent, "", *[silent] * 120]
         assert page.text("#message").startswith("The server doesn't answer.")
-        run("told.push([1, 200, arguments[0]])", {**best, "state": "done", "isCut": True, "seconds": 3.6})
+        run("told.push([1e9, 200, arguments[0]])", best)
         page.click("#plan")
+        page.wait(lambda: run("return desk.state.search?.name === 'S3'"))
+        run("window.dispatchEvent(new Event('pagehide'))")
+        assert run("return ended") == ["api/search/S3"], "who leaves the page ends the search"
+        run("told[0] = [1, 200, arguments[0]]", {**best, "state": "done", "isCut": True, "seconds": 3.6})
         page.wait(lambda: page.text("#message") == "The search was ended after 4 of 10 s, as nobody asked for it.")
 
 
