@@ -21,7 +21,7 @@ import time
 import weakref
 import zipfile
 from collections import Counter
-from collections.abc import Callable, Iterator
+from collections.abc import Callable, Collection, Iterator
 from typing import Any
 from unittest import mock
 
@@ -336,13 +336,15 @@ def test_faults_name_their_cells_and_controls(client: FlaskClient) -> None:
     assert "`" not in "".join(places.values()) and got["suggested"] == ["saw", "drill"] and "shop" not in got
 
 
-def workbook(sheets: dict[str, list[list[Any]]]) -> bytes:
+def workbook(sheets: dict[str, list[list[Any]]], hidden: Collection[str] = ()) -> bytes:
     import openpyxl
     book, out = openpyxl.Workbook(), io.BytesIO()
     book.remove(book.active)
     for name, rows in sheets.items():
         for row in rows:
             book[name].append(row) if name in book.sheetnames else book.create_sheet(name).append(row)
+        for letter in hidden:
+            book[name].column_dimensions[letter].hidden = book[name].row_dimensions[ord(letter) - 64].hidden = True
     book.save(out)
     return out.getvalue()
 
@@ -356,34 +358,74 @@ OPTIONS = {"jobs": ["saw", "order", "job"], "quantity": ["Paint", "pieces"],
            "seconds": [2], "nothing": [1]}
 
 
+FORMULA = 0.8333333333
+
+
+def with_formulas(book: bytes) -> bytes:
+    """A workbook in which formulas computed these numbers, as a spreadsheet saves it."""
+    out = io.BytesIO()
+    with zipfile.ZipFile(io.BytesIO(book)) as own, zipfile.ZipFile(out, "w") as other:
+        for name in own.namelist():
+            other.writestr(name, own.read(name).replace(b"<v>%r</v>" % FORMULA, b"<f>50/60</f><v>%r</v>" % FORMULA))
+    return out.getvalue()
+
+
+def test_what_a_formula_computed_is_rounded_until_another_number_is_typed(client: FlaskClient) -> None:
+    """As by the terminal, also when its rows come back with other options. A number that was typed stays exact."""
+    rows = [["job", "saw", "drill"], ["a", FORMULA, 0], ["b", 0.5, FORMULA]]
+    got = read(client, with_formulas(workbook({"a": [["job [h]", *rows[0][1:]], *rows[1:]]})))
+    assert got["shop"]["times"] == [[8333, 0], [5000, 8333]] and got["computed"] == [[2, 2], [3, 3]]
+    assert got["rounded"] == "2 times of formulas rounded to 4 decimals, by 3.3e-05 at most (B2: 0.833333333)"
+    got = read(client, with_formulas(workbook({"a": rows})))
+    assert (got["rounded"], got["shop"]["decimals"]) == ("", 9)
+    for unit, texts, times in (("min", [], [83, 83]), ("d", [], [83_333, 83_333]),
+                               ("d", [[2, 2]], [833_333_333, 833_330_000])):
+        options = {"delimiter": ",", "texts": texts, "computed": got["computed"], "unit": unit}
+        shop = answer(client, "/api/read", {"rows": got["rows"], "options": options})["shop"]
+        assert [shop["times"][0][0], shop["times"][1][1]] == times
+
+
 @pytest.mark.seconds(60)
 def test_a_workbook_is_planned_as_by_the_terminal(client: FlaskClient, tmp_path: pathlib.Path) -> None:
-    """The sheet `pfs` counts: the same plan, or the same faults."""
+    """Its sheet `pfs`, units, sums, quantities, formulas, blanks and what is hidden count: the same plan, or the same
+    faults."""
     choose, done = random.Random(3), Counter[str]()
-    for number in range(200):
+    for number in range(100):
         names = sorted({*choose.sample([*OPTIONS], choose.randint(0, 3)), *["begin"] * (number % 2)})
         rows = [[name, choose.choice(OPTIONS[name])] for name in names]
         cells = [1, 2.5, 3, 12] + ["1,5"] * choose.randint(0, 1) + ["-"] * (number % 9 == 0)
+        cells += [FORMULA] * choose.randint(0, 2) + [None] * (number % 7 == 0)
         head = ["job [h]" if number % 3 else "job", "saw", "drill", "paint", *["total"] * (number % 5 == 0)]
-        table: list[list[Any]] = [head]
-        table += [[job, *(choose.choice(cells) for _ in table[0][1:])] for job in ("table", "box", "shelf")]
+        head += ["pieces"] * choose.randint(0, 1)
+        table: list[list[Any]] = [*[["Plan 49"], []] * choose.randint(0, 1), head]
+        table += [[job, *(choose.choice(cells[:4:3] if name == "pieces" else cells) for name in head[1:])]
+                  for job in ("table", "box", "shelf", *["sum"] * (number % 11 == 0))]
         other: list[list[Any]] = [["job [min]", "saw", "drill"], ["a", 4, 2], ["b", 1, 3]]
         sheets = {"KW 48": other, "KW 49": table}
-        book = workbook({"PFS" if number % 2 else "pfs": [["# options"], *rows],
-                         **dict(choose.sample([*sheets.items()], choose.randint(1, 2)))})
+        book = with_formulas(workbook({"PFS" if number % 2 else "pfs": [["# options"], *rows],
+                                       **dict(choose.sample([*sheets.items()], choose.randint(1, 2)))},
+                                      {choose.choice("BCD") for _ in range(number % 4)}))
         (tmp_path / "table.xlsx").write_bytes(book)
         due = run_main(lambda: main(sys.argv[1:], plan_words()), ["pfs-plan", "table.xlsx", "--rounds", "1"], tmp_path)
         got = asked(client, "/api/read", {"content": content(book), "name": "table.xlsx", "options": {}})
         said, found = f"{rows} {table} {due} {got.text}", json.loads(got.text)
         if got.status_code != 200 or found["faults"]:
             done["refused"] += 1
-            cells = [f"cell {'ABCDE'[each['column'] - 1]}{each['line']}" if each["column"] else f"line {each['line']}"
+            cells = [f"cell {'ABCDEF'[each['column'] - 1]}{each['line']}" if each["column"] else f"line {each['line']}"
                      for each in found.get("faults", [])]
             # The terminal looks at the dates first.
             assert due.status and (
                 "needs --begin" in due.stderr or found.get("error", "") in due.stderr
-                and re.findall(r" (cell [A-E]\d+|line \d+)\b", due.stderr) == cells), said
+                and re.findall(r" (cell [A-F]\d+|line \d+)\b", due.stderr) == cells), said
             continue
+        again = {**found["own"].get("typed", {}), **{name: found[name] for name in ("delimiter", "texts", "computed")}}
+        assert answer(client, "/api/read", {"rows": found["rows"], "options": again})["shop"] == found["shop"], said
+        notes = [found["rounded"], *(f"{count} hidden {what}" for count, what in zip(found["hidden"], ("row", "column"))
+                                     if count)]
+        assert due.status or all(note in due.stderr for note in notes), said
+        assert due.status or ("rounded" in due.stderr, "hidden" in due.stderr) == (
+            bool(found["rounded"]), found["hidden"] != [0, 0]), said
+        done["rounded"] += bool(found["rounded"])
         makespan, *_ = lines = due.stdout.splitlines() or [""]
         calendar, shop = found["own"].get("calendar", {}), found["shop"]
         order = [line.partition(" ")[2] for line in lines if re.match(r"\d+ ", line)]
@@ -399,7 +441,7 @@ def test_a_workbook_is_planned_as_by_the_terminal(client: FlaskClient, tmp_path:
         done["dates" if end else "plan"] += 1
         assert found["own"].get("unused", []) == [name for name in names if name == "seconds"], said
         assert not {"pfs", "PFS"} & {*found["sheets"]}
-    assert min(done[each] for each in ("refused", "without dates", "plan", "dates")) > 5, done
+    assert min(done[each] for each in ("refused", "without dates", "plan", "dates", "rounded")) > 5, done
 
 
 def test_hidden_rows_and_columns_are_counted(client: FlaskClient) -> None:
@@ -691,6 +733,15 @@ def test_an_order_is_read_of_what_was_downloaded(kind: str, client: FlaskClient)
     shop = {**SHOP, "jobs": ["table", "stool", "shelf", "box"]}
     for each, order in ((SHOP, ORDER), (shop, ["box", "table", "shelf"])):
         assert answer(client, "/api/order", {"shop": each, "content": content(path)}) == {"order": order}
+
+
+def test_a_schedule_that_says_what_has_happened_is_refused(client: FlaskClient) -> None:
+    """Its columns may be empty."""
+    for cell, status in (("x", 422), ("", 200)):
+        text = f"job;machine;start;end;begun;ended\nbox;saw;0;1;;{cell}\ntable;saw;1;4\n"
+        got = asked(client, "/api/order", {"shop": SHOP, "content": content(text)})
+        assert got.status_code == status and ("pfs-plan --now" in got.text) == (status == 422)
+        assert status == 422 or got.json == {"order": ["box", "table"]}
 
 
 def test_what_is_no_order_is_refused(client: FlaskClient) -> None:

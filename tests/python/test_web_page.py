@@ -142,7 +142,7 @@ window.fetch = async (path, given = {}) => {
     const got = await ownFetch(path, given), content = await got.arrayBuffer();
     await wait;
     // What comes late is taken a moment later.
-    if (wait) { busy += 1; ownWait(() => { busy -= 1; }, 100); }
+    if (wait) { busy += 1; ownWait(() => { busy -= 1; }, 500); }
     return new Response(content, got);
   } finally { busy -= !wait; }
 };
@@ -329,6 +329,84 @@ def test_a_week_over_a_restart_and_two_servers(tmp_path: pathlib.Path) -> None:
     """Saved on Monday evening, and opened on Tuesday on another server: recorded, and read by a person."""
     with week(tmp_path) as play:
         play.play(pathlib.Path(__file__).with_name("week_in_german.txt").read_text("utf-8"))
+
+
+# Time passes when the page waits for it. What a search tells is up to the test: how often, with which status, and what.
+# Without a status the server isn't reached, as all of it while it is gone.
+CLOCK = """let time = 0;
+const ownWait = window.setTimeout, ownFetch = window.fetch;
+Object.assign(window, {waits: [], told: [], sent: [], ended: [], said: [], isGone: false});
+Date.now = () => time;
+window.setTimeout = (call, wait = 0, ...given) => {
+  const isLong = wait >= 300 && wait < 60_000;
+  time += isLong ? wait : 0;
+  if (isLong) waits.push(wait);
+  return ownWait(call, isLong ? 0 : wait, ...given);
+};
+window.fetch = async (path, given = {}) => {
+  if (isGone) throw new TypeError();
+  if (!path.startsWith("api/search")) return ownFetch(path, given);
+  if (given.method === "POST") return Response.json({search: `S${sent.push(JSON.parse(given.body))}`});
+  if (given.method === "DELETE") return Response.json({}, {status: ended.push(path) && 200});
+  const [[count, status, answer]] = told;
+  told[0][0] -= 1;
+  if (told[0][0] === 0) told.shift();
+  said.push(document.getElementById("message").textContent);
+  if (!status) throw new TypeError();
+  return Response.json(answer, {status});
+};"""
+
+
+@contextlib.contextmanager
+def by_clock(page: Page) -> Iterator[Callable[..., Any]]:
+    """The page with a table of three jobs, where time passes like this."""
+    own = page.browser.execute_cdp_cmd("Page.addScriptToEvaluateOnNewDocument", {"source": CLOCK})
+    try:
+        page.open()
+        page.paste("job [h];saw;drill\na;1;2\nb;3;4\nc;5;6\n")
+        page.wait(lambda: "3 jobs" in page.text("#read"))
+        yield page.browser.execute_script
+    finally:
+        page.browser.execute_cdp_cmd("Page.removeScriptToEvaluateOnNewDocument", own)
+        page.browser.refresh()
+
+
+def test_a_search_survives_what_happens_to_the_server(page: Page) -> None:
+    """It is asked for two minutes after each answer. After a restart it goes on from its best order for the time that
+    is left, and that order stays when the server is given up."""
+    order, gone = ["c", "a", "b"], [119, 0, None]
+    best = {"state": "searching", "place": 0, "seconds": 2.5, "limit": 10, "order": order, "least": 14,
+            "makespan": "15 h", "bound": "14 h"}
+    waiting = {"state": "waiting", "place": 1, "seconds": 0, "limit": 7, "makespan": "", "bound": "14 h"}
+    with by_clock(page) as run:
+        run("told.push(...arguments[0])", [[1, 200, best], gone, [1, 200, best], gone, [1, 404, {"error": "over"}],
+                                           [1, 200, waiting], [121, 0, None]])
+        page.click("#plan")
+        page.wait(lambda: run("return told.length === 0 && !desk.state.search") and page.one("#plan").is_enabled())
+        assert run("return desk.state.doc.plan.order") == order
+        sent = run("return sent.map(each => [each.order, each.seconds])")
+        assert sent == [[None, 10], [order, 8]], "for what is left of 10 s"
+        said, silent = run("return said"), "The server doesn't answer. It is asked again."
+        assert said == ["", "", *[silent] * 118, silent, "", *[silent] * 118, silent, silent, "", *[silent] * 120]
+        assert page.text("#message").startswith("The server doesn't answer.")
+        run("told.push([1e9, 200, arguments[0]])", best)
+        page.click("#plan")
+        page.wait(lambda: run("return desk.state.search?.name === 'S3'"))
+        run("window.dispatchEvent(new Event('pagehide'))")
+        assert run("return ended") == ["api/search/S3"], "who leaves the page ends the search"
+        run("told[0] = [1, 200, arguments[0]]", {**best, "state": "done", "isCut": True, "seconds": 3.6})
+        page.wait(lambda: page.text("#message") == "The search was ended after 4 of 10 s, as nobody asked for it.")
+
+
+def test_what_failed_is_asked_again_less_and_less(page: Page) -> None:
+    """And quickly again after an answer."""
+    with by_clock(page) as run:
+        for place in range(2):
+            run("waits = []; isGone = true")
+            page.write(page.key("2,2"), f"{place + 7}")
+            page.wait(lambda: run("return waits.length > 6"))
+            assert run("isGone = false; return waits.slice(0, 7)") == [1000, 2000, 4000, 8000, *[15_000] * 3]
+            page.wait(lambda: run("return desk.state.read.shop?.times[0][0]") == place + 7)
 
 
 # Looks at a list of many rows as it is scrolled, and at what gets the focus there.

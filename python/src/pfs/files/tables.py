@@ -314,16 +314,6 @@ def table_of(source: str | os.PathLike[str], unit: str, decimal: str | None, all
     return Table(shop, delimiter, content.startswith(MARKS), note, rounded, tuple(rows.left_out), own)
 
 
-def table_in(records: Records, path: str, delimiter: str, unit: str, decimal: str | None, allow_totals: bool,
-             machines: Iterable[str] | None, most_decimals: int | None, texts: set[tuple[int, int]] | None,
-             faults: Iterable[TableFault] = ()) -> tuple[Instance, str]:
-    """Read a table from the rows of a file, with its faults so far, or of a workbook, with the places of its texts.
-    Return it, and what was rounded."""
-    names = [*(machines or ())]
-    rows = Rows(path, records, delimiter, texts, bool(names), [*faults])
-    return shop_in(rows, unit, decimal, allow_totals, names, most_decimals)
-
-
 def shop_in(rows: Rows, unit: str, decimal: str | None, allow_totals: bool, machines: Iterable[str] | None,
             most_decimals: int | None, quantity: str | None = None, setup: Iterable[str] = (),
             jobs: str | None = None) -> tuple[Instance, str]:

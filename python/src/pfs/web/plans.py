@@ -66,7 +66,7 @@ def read(given: dict[str, Any], folder: str) -> dict[str, Any]:
         return shop_of(rows_from(given.get("rows")), options)
     content, own, hidden = content_from(given), dict[str, Any](), [0, 0]
     name, sheet = field(given, "name", str, ""), field(options, "sheet", str)
-    faults, sheets, marked = list[TableFault](), list[str](), None
+    faults, sheets, marks = list[TableFault](), list[str](), dict[str, Any]()
     if content.startswith(tables.ARCHIVE):
         # A sheet is named when another one is chosen.
         book = Workbook(content, name)
@@ -76,16 +76,17 @@ def read(given: dict[str, Any], folder: str) -> dict[str, Any]:
         if own and sheet and sheet not in book.names:
             raise Wrong(f"{name} has no sheet {sheet!r}, but {', '.join(map(repr, book.names))}")
         table = book.csv_of(sheet := sheet if sheet in book.names else book.first, tables.MOST_ROWS + 2)
-        marked, hidden = [[*place] for place in sorted(book.texts)], book.hidden
+        hidden = book.hidden
+        marks = {"texts": [*map(list, sorted(book.texts))], "computed": [*map(list, sorted(book.computed))]}
     else:
         table = tables.text_of(content, name, faults)
     delimiter = tables.delimiter_of(table)
     rows = [*tables.records(table, name, delimiter)]
     if len(rows) > tables.MOST_ROWS:
         raise Wrong(f"the table has more than {tables.MOST_ROWS:,} rows")
-    return {"rows": rows, "delimiter": delimiter, "texts": marked, "sheets": sheets, "sheet": sheet,
-            "isOther": bool(faults), "own": own, "hidden": hidden,
-            **shop_of(rows, {**options, "delimiter": delimiter, "texts": marked})}
+    marks |= {"delimiter": delimiter}
+    return {"rows": rows, "texts": None, "computed": None, "sheets": sheets, "sheet": sheet, "isOther": bool(faults),
+            "own": own, "hidden": hidden, **marks, **shop_of(rows, {**options, **marks})}
 
 
 def set_in(book: Workbook) -> dict[str, Any]:
@@ -103,21 +104,20 @@ def set_in(book: Workbook) -> dict[str, Any]:
 
 
 def shop_of(rows: list[tuple[int, list[str]]], options: dict[str, Any]) -> dict[str, Any]:
-    """The shop of a table, or its faults by their cells. A workbook's has `texts`, the cells that aren't numbers."""
-    marked = field(options, "texts", list)
-    if marked and not all(type(each) is list and [*map(type, each)] == [int, int] for each in marked):
-        raise OTHER_FORM
-    marks = None if marked is None else {(line, column) for line, column in marked}
+    """The shop of a table, or its faults by their cells. A workbook's has `texts`, the cells that aren't numbers, also
+    those that were typed here, and `computed`, the cells of formulas."""
+    marks, computed = places(options, "texts"), places(options, "computed") or set()
     machines, setups = (texts(field(options, name, list, [])) for name in ("machines", "setup"))
     delimiter, jobs, quantity, unit, decimal = (
         field(options, name, str, "") for name in ("delimiter", "jobs", "quantity", "unit", "decimal"))
     if delimiter not in ("", ",", ";", "\t"):
         raise OTHER_FORM
+    table = tables.Rows("table", lambda: rows, delimiter or ",", marks, bool(machines), [])
+    table.computed = computed - (marks or set())
     try:
         shop, rounded = tables.shop_in(
-            tables.Rows("table", lambda: rows, delimiter or ",", marks, bool(machines), []), unit, decimal or None,
-            field(options, "totals", bool, False), machines, field(options, "decimals", int), quantity or None, setups,
-            jobs or None)
+            table, unit, decimal or None, field(options, "totals", bool, False), machines,
+            field(options, "decimals", int), quantity or None, setups, jobs or None)
     except TableFault as fault:
         found = [{"line": each.line, "column": each.column, "text": as_controls(each.text)}
                  for each in (fault, *fault.others)]
@@ -126,6 +126,14 @@ def shop_of(rows: list[tuple[int, list[str]]], options: dict[str, Any]) -> dict[
     return {"faults": [], "more": 0, "suggested": [], "rounded": rounded, "digest": Plan(shop).table,
             "shop": {"jobs": shop.job_names, "machines": shop.machine_names, "unit": shop.unit,
                      "decimals": shop.decimals, "times": shop.times.tolist()}}
+
+
+def places(options: dict[str, Any], name: str) -> set[tuple[int, int]] | None:
+    """Cells of a table, by their rows and columns."""
+    found = field(options, name, list)
+    if found and not all(type(each) is list and [*map(type, each)] == [int, int] for each in found):
+        raise OTHER_FORM
+    return None if found is None else {(line, column) for line, column in found}
 
 
 def rows_from(rows: Any) -> list[tuple[int, list[str]]]:
@@ -154,13 +162,17 @@ def shop_from(given: dict[str, Any]) -> Instance:
 
 
 def order(given: dict[str, Any], folder: str) -> dict[str, list[str]]:
-    """The jobs of a table in the order of a file, as `pfs-plan --order` reads it."""
+    """The jobs of a table in the order of a file, as `pfs-plan --order` reads it. What has happened isn't left out in
+    silence."""
     shop, path = shop_from(given), pathlib.Path(folder, "order")
     path.write_bytes(content_from(given))
     try:
-        return {"order": [*map(shop.job_name, order_in(path, shop).jobs)]}
+        found = order_in(path, shop)
     except TableFault as fault:
         raise Wrong(fault.text) from None
+    if any("".join(row[column - 1:column]) for _, row in found.rows for column in found.columns.values()):
+        raise Wrong("what has begun and ended is planned by pfs-plan --now: leave these columns out to take the order")
+    return {"order": [*map(shop.job_name, found.jobs)]}
 
 
 # Plans

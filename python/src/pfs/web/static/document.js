@@ -5,8 +5,8 @@
 // changed. So what was said belongs to what it was said of, if it has that very object (`read.typed === doc.typed`),
 // or, where it is saved, the digest of its table, which the server computes.
 export const VERSION = 1, FORM = "pfs-web document", MOST_PROVED = 50;
-const TYPED = {name: "", delimiter: ",", rows: [], texts: null, machines: [], jobs: "", quantity: "", setup: [],
-               unit: "", decimal: "", decimals: "", totals: false};
+const TYPED = {name: "", delimiter: ",", rows: [], texts: null, computed: null, machines: [], jobs: "",
+               quantity: "", setup: [], unit: "", decimal: "", decimals: "", totals: false};
 const DATES = {begin: "", shifts: "", days: "", closed: ""};
 // `plan` has a digest, an order and how many of its first jobs are held; `proved` the greatest bounds by digests, and
 // `claimed` those of a file, which nobody has proved here; `kept` has plans with their tables.
@@ -134,9 +134,9 @@ export const sheetOf = (state, sheet) => ({...state, opening: {content: state.re
   options: {...state.doc.typed, machines: [], jobs: "", quantity: "", setup: [], sheet}}});
 function opened(state, opening, found) {
   if (state.opening !== opening) return state;
-  const {rows, delimiter, texts, sheet, sheets, own = {}} = found, {doc} = state;
+  const {rows, delimiter, texts, computed, sheet, sheets, own = {}} = found, {doc} = state;
   const typed = {...opening.options, ...own.typed, decimals: String(own.typed?.decimals ?? opening.options.decimals),
-                 rows, delimiter, texts, sheet};
+                 rows, delimiter, texts, computed, sheet};
   const next = stepped(state, "file opened", {...BLANK, typed, proved: doc.proved, claimed: doc.claimed, kept: doc.kept,
     calendar: own.calendar ? {...DATES, ...own.calendar} : {...doc.calendar, begin: ""}});
   return {...next, opening: null, read: {...found, typed, sheets, content: opening.content}};

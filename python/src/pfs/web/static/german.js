@@ -92,8 +92,11 @@ const FAULTS = [
   [/^'(.*)' is not a (date|first and).*/, "'$1' ist kein Datum wie 24.12.2026, und nicht wie 24.12.2026-01.01.2027"],
   [/.* is more than ten years after the begin/, "die Feiertage liegen mehr als zehn Jahre nach dem Arbeitsbeginn"],
   [/.*, which dates need: .*/, "Termine brauchen eine Einheit der Zeiten: min, h, s oder d"],
+  [/^what has begun and ended.*/, "was begonnen und geendet hat, plant pfs-plan --now: hier ohne diese Spalten"],
   [/^no job of the table is named.*/, "Kein Auftrag der Tabelle ist in dieser Reihenfolge."],
   [/.* needs "Work begins", .*/, "Bitte bei „Termine und Schichten“ den Arbeitsbeginn eintragen."],
+  [/^([\d,]+) times?( of formulas)? rounded to (\d) decimals?, by (\S+) at most (\(.*\))/,
+   "gerundete Zeiten: $1, auf Nachkommastellen: $3, höchstens um $4 $5"],
   [/^(the server (is busy|has too)|too many searches).*/, "der Server ist ausgelastet: bitte bald noch einmal"],
   [/^The token is missing or wrong.*/, "In der Adresse fehlt das Kennwort: bitte nach der ganzen Adresse fragen."],
 ];

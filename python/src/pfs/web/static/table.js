@@ -41,8 +41,8 @@ function drawNotes(read) {
   const used = own?.typed ? tr("the options of its sheet pfs are used") : "";
   const unused = own?.unused?.length ? `${tr("but for these:")} ${own.unused.join(", ")}` : "";
   const large = isTooLarge ? ` ${tr("It is too large to survive a reload of the page.")}` : "";
-  byId("read").textContent = [typed().name, read.shop && described(read.shop), read.rounded, hidden, used, unused,
-                              other].filter(Boolean).join(": ") + large;
+  byId("read").textContent = [typed().name, read.shop && described(read.shop), fault(read.rounded || ""), hidden, used,
+                              unused, other].filter(Boolean).join(": ") + large;
 }
 function drawRead(read) {
   for (const row of typed().rows) wrong.delete(row);
