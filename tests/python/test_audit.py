@@ -252,9 +252,10 @@ def test_shorter_orders_are_put_into_a_table(tmp_path: pathlib.Path, monkeypatch
     pathlib.Path("best.csv").write_text(
         text + "".join(f"ta00{at},{span},1000,5,first,1,2,{jobs}\n" for at, span in spans.items()))
     pfs.generate(20, 5, 7).write("ta003")
-    rows = [("ta001", by_neh[1].makespan, by_neh[1].order, "=NEH"), ("ta001", spans[1], long[1], "later"),
-            ("ta002", by_neh[2].makespan - 1, by_neh[2].order, "wrong"),
-            ("ta003", pfs.generate(20, 5, 7).neh().makespan, pfs.generate(20, 5, 7).neh().order, "another instance")]
+    rows: list[tuple[str, int, Any, str]] = [
+        ("ta001", by_neh[1].makespan, by_neh[1].order, "=NEH"), ("ta001", spans[1], long[1], "later"),
+        ("ta002", by_neh[2].makespan - 1, by_neh[2].order, "wrong"),
+        ("ta003", pfs.generate(20, 5, 7).neh().makespan, pfs.generate(20, 5, 7).neh().order, "another instance")]
     pathlib.Path("table.csv").write_text("instance,Cmax,order,method\n" + "".join(
         f"{name},{span},{' '.join(str(job + (method != '=NEH')) for job in order)},{method}\n"
         for name, span, order, method in rows))

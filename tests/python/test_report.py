@@ -470,8 +470,8 @@ def test_many_pairs_and_holms_correction_for_them(report: Reported, folder: path
                                                                             rel=1e-3)
     cases: list[tuple[list[float | None], list[float | None]]] = [
         ([0.04, None, 0.03, 0.05], [0.09, None, 0.09, 0.09]), ([0.9, 0.5], [1, 1]), ([0.01, 0.04], [0.02, 0.04])]
-    for given, wanted in cases:
-        got = holm(pandas.Series(given)).reindex(range(len(given)))
+    for values, wanted in cases:
+        got = holm(pandas.Series(values)).reindex(range(len(values)))
         assert [None if each != each else each for each in got] == pytest.approx(wanted)
 
 
@@ -835,7 +835,7 @@ def test_critical_differences_are_those_of_tables() -> None:
     assert critical_difference(4, 14) == pytest.approx(1.25, abs=0.005)
 
 
-@given(st.lists(st.integers(10, 50), min_size=1, max_size=7).map(sorted), st.integers(1, 30))
+@given(st.lists(st.integers(10, 50), min_size=1, max_size=7).map(lambda ranks: sorted(ranks)), st.integers(1, 30))
 def test_bars_are_beside_each_longest_run_of_ranks_that_differ_by_less(ranks: list[float], difference: float) -> None:
     places = range(len(ranks))
     near = {(one, other) for one, other in itertools.combinations(places, 2) if ranks[other] - ranks[one] < difference}

@@ -372,7 +372,7 @@ def with_formulas(book: bytes) -> bytes:
 
 def test_what_a_formula_computed_is_rounded_until_another_number_is_typed(client: FlaskClient) -> None:
     """As by the terminal, also when its rows come back with other options. A number that was typed stays exact."""
-    rows = [["job", "saw", "drill"], ["a", FORMULA, 0], ["b", 0.5, FORMULA]]
+    rows: list[list[Any]] = [["job", "saw", "drill"], ["a", FORMULA, 0], ["b", 0.5, FORMULA]]
     got = read(client, with_formulas(workbook({"a": [["job [h]", *rows[0][1:]], *rows[1:]]})))
     assert got["shop"]["times"] == [[8333, 0], [5000, 8333]] and got["computed"] == [[2, 2], [3, 3]]
     assert got["rounded"] == "2 times of formulas rounded to 4 decimals, by 3.3e-05 at most (B2: 0.833333333)"
@@ -393,11 +393,12 @@ def test_a_workbook_is_planned_as_by_the_terminal(client: FlaskClient, tmp_path:
     for number in range(100):
         names = sorted({*choose.sample([*OPTIONS], choose.randint(0, 3)), *["begin"] * (number % 2)})
         rows = [[name, choose.choice(OPTIONS[name])] for name in names]
-        cells = [1, 2.5, 3, 12] + ["1,5"] * choose.randint(0, 1) + ["-"] * (number % 9 == 0)
+        cells: list[Any] = [1, 2.5, 3, 12] + ["1,5"] * choose.randint(0, 1) + ["-"] * (number % 9 == 0)
         cells += [FORMULA] * choose.randint(0, 2) + [None] * (number % 7 == 0)
         head = ["job [h]" if number % 3 else "job", "saw", "drill", "paint", *["total"] * (number % 5 == 0)]
         head += ["pieces"] * choose.randint(0, 1)
-        table: list[list[Any]] = [*[["Plan 49"], []] * choose.randint(0, 1), head]
+        table: list[list[Any]] = [["Plan 49"], []] * choose.randint(0, 1)
+        table.append(head)
         table += [[job, *(choose.choice(cells[:4:3] if name == "pieces" else cells) for name in head[1:])]
                   for job in ("table", "box", "shelf", *["sum"] * (number % 11 == 0))]
         other: list[list[Any]] = [["job [min]", "saw", "drill"], ["a", 4, 2], ["b", 1, 3]]

@@ -77,7 +77,8 @@ def read(given: dict[str, Any], folder: str) -> dict[str, Any]:
             raise Wrong(f"{name} has no sheet {sheet!r}, but {', '.join(map(repr, book.names))}")
         table = book.csv_of(sheet := sheet if sheet in book.names else book.first, tables.MOST_ROWS + 2)
         hidden = book.hidden
-        marks = {"texts": [*map(list, sorted(book.texts))], "computed": [*map(list, sorted(book.computed))]}
+        marks = {name: [[*cell] for cell in sorted(cells)] for name, cells in
+                 (("texts", book.texts), ("computed", book.computed))}
     else:
         table = tables.text_of(content, name, faults)
     delimiter = tables.delimiter_of(table)
