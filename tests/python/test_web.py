@@ -324,7 +324,7 @@ def test_a_file_is_read_with_its_rows(code: str, client: FlaskClient) -> None:
     table = TABLE.replace("box", "K\u00fcche")
     assert read(client, table.encode(code)) == {
         **AS_READ, "shop": {**SHOP, "jobs": [*SHOP["jobs"][:3], "K\u00fcche"]}, "delimiter": ";", "texts": None,
-        "sheets": [], "sheet": None, "isOther": code == "cp1252", "own": {}, "hidden": [0, 0],
+        "computed": None, "sheets": [], "sheet": None, "isOther": code == "cp1252", "own": {}, "hidden": [0, 0],
         "rows": [[line, row.split(";")] for line, row in enumerate(table.splitlines(), 1)]}
 
 

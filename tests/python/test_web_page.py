@@ -331,8 +331,8 @@ def test_a_week_over_a_restart_and_two_servers(tmp_path: pathlib.Path) -> None:
         play.play(pathlib.Path(__file__).with_name("week_in_german.txt").read_text("utf-8"))
 
 
-# Time passes when the page waits for it. What a search tells is up to the test: how often, with which status, and what.
-# Without a status the server isn't reached, as all of it while it is gone.
+# Time passes when the page waits for it. What a search tells is up to the test: how often, with which status, what, and
+# after how long. Without a status the server isn't reached, as all of it while it is gone.
 CLOCK = """let time = 0;
 const ownWait = window.setTimeout, ownFetch = window.fetch;
 Object.assign(window, {waits: [], told: [], sent: [], ended: [], said: [], isGone: false});
@@ -348,7 +348,8 @@ window.fetch = async (path, given = {}) => {
   if (!path.startsWith("api/search")) return ownFetch(path, given);
   if (given.method === "POST") return Response.json({search: `S${sent.push(JSON.parse(given.body))}`});
   if (given.method === "DELETE") return Response.json({}, {status: ended.push(path) && 200});
-  const [[count, status, answer]] = told;
+  const [[, status, answer, passed = 0]] = told;
+  time += passed;
   told[0][0] -= 1;
   if (told[0][0] === 0) told.shift();
   said.push(document.getElementById("message").textContent);
@@ -374,20 +375,20 @@ def by_clock(page: Page) -> Iterator[Callable[..., Any]]:
 def test_a_search_survives_what_happens_to_the_server(page: Page) -> None:
     """It is asked for two minutes after each answer. After a restart it goes on from its best order for the time that
     is left, and that order stays when the server is given up."""
-    order, gone = ["c", "a", "b"], [119, 0, None]
+    order, gone = ["c", "a", "b"], [4, 0, None, 29_000]
     best = {"state": "searching", "place": 0, "seconds": 2.5, "limit": 10, "order": order, "least": 14,
             "makespan": "15 h", "bound": "14 h"}
     waiting = {"state": "waiting", "place": 1, "seconds": 0, "limit": 7, "makespan": "", "bound": "14 h"}
     with by_clock(page) as run:
         run("told.push(...arguments[0])", [[1, 200, best], gone, [1, 200, best], gone, [1, 404, {"error": "over"}],
-                                           [1, 200, waiting], [121, 0, None]])
+                                           [1, 200, waiting], [5, *gone[1:]]])
         page.click("#plan")
         page.wait(lambda: run("return told.length === 0 && !desk.state.search") and page.one("#plan").is_enabled())
         assert run("return desk.state.doc.plan.order") == order
         sent = run("return sent.map(each => [each.order, each.seconds])")
         assert sent == [[None, 10], [order, 8]], "for what is left of 10 s"
         said, silent = run("return said"), "The server doesn't answer. It is asked again."
-        assert said == ["", "", *[silent] * 118, silent, "", *[silent] * 118, silent, silent, "", *[silent] * 120]
+        assert said == ["", "", *[silent] * 4, "", *[silent] * 5, "", *[silent] * 4]
         assert page.text("#message").startswith("The server doesn't answer.")
         run("told.push([1e9, 200, arguments[0]])", best)
         page.click("#plan")
