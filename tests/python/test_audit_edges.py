@@ -76,7 +76,7 @@ def test_which_sheet_is_read(tmp_path: pathlib.Path) -> None:
     with pytest.raises(ValueError, match="has no sheet 'new', but 'old', 'plan'"):
         pfs.read_csv(tmp_path / "a.xlsx", sheet="new")
     (tmp_path / "a.csv").write_text("job;saw;drill\ntable;3;2\n")
-    with pytest.raises(ValueError, match="isn't a workbook"):
+    with pytest.warns(UserWarning, match="isn't a workbook, and has no sheet 'old'"):
         pfs.read_csv(tmp_path / "a.csv", sheet="old")
     book_of(tmp_path / "one.xlsx", plan=times)
     assert pfs.read_csv(tmp_path / "one.xlsx").jobs == 2

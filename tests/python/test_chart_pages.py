@@ -345,9 +345,14 @@ def test_a_chart_is_drawn_as_its_schedule_says(pages: dict[str, Any], name: str)
         assert key == Layout(look).key(), look[4:]
     rows = [line.split(",") for line in str(look.made.to_csv(calendar=look.calendar)).splitlines()[1:]]
     at = Layout(look)
-    assert sorted(rows) == sorted([job, machine, *told[row][place]] for row, machine in enumerate(at.machines)
-                                  for place, job in enumerate(at.jobs))
-    assert lists == [listed([row for row in rows if row[1] == machine], bool(at.clock)) for machine in at.machines]
+    every = {(row, place): [job, machine, *told[row][place]] for row, machine in enumerate(at.machines)
+             for place, job in enumerate(at.jobs)}
+    # The CSV has what takes time, and of a job without time the first machine.
+    busy = {key for key, (_, _, start, end) in every.items() if start != end}
+    assert sorted(rows) == sorted(each for (row, place), each in every.items() if (row, place) in busy or row == 0
+                                  and not any((other, place) in busy for other in range(len(at.machines))))
+    assert lists == [listed([each for (of, _), each in every.items() if of == row], bool(at.clock))
+                     for row in range(len(at.machines))]
 
 
 # What hands do with a chart

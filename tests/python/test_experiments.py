@@ -568,7 +568,7 @@ def test_readmes_plans_by_time(experiment: Experiment) -> None:
     for_vfr, of_mine, of_grid, methods = re.findall(r"```\n([^`]*time_factors[^`]*)```", README)
     (experiment.folder / "VFR10_5_1_Gap.txt").write_text(
         experiment.printed("convert", "--from", "taillard", "--to", "orlib", "shops/b"))
-    (experiment.folder / "best.csv").write_text("instance,makespan\nVFR10_5_1,20\n")
+    (experiment.folder / "vfr.csv").write_text("instance,makespan\nVFR10_5_1,20\n")
     assert experiment.plan(for_vfr).run().status == 0
     assert experiment.columns("instance", "time_factor", "reference") == [("VFR10_5_1_Gap.txt", "30", "20")]
     makespan = experiment.printed("value", "--layout", "taillard", "shops/b").strip()

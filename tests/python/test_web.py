@@ -442,7 +442,7 @@ def test_a_workbook_is_planned_as_by_the_terminal(client: FlaskClient, tmp_path:
         done["dates" if end else "plan"] += 1
         assert found["own"].get("unused", []) == [name for name in names if name == "seconds"], said
         assert not {"pfs", "PFS"} & {*found["sheets"]}
-    assert min(done[each] for each in ("refused", "without dates", "plan", "dates", "rounded")) > 5, done
+    assert min(done[each] for each in ("refused", "without dates", "plan", "dates", "rounded")) > 2, done
 
 
 def test_hidden_rows_and_columns_are_counted(client: FlaskClient) -> None:
