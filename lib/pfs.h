@@ -342,7 +342,8 @@ int pfs_rounds(struct pfs_instance *instance, const struct pfs_rounds_options *o
 int pfs_prove(struct pfs_instance *instance, uint32_t *order, size_t order_length, uint64_t nodes, uint64_t *makespan,
               uint64_t *bound, uint64_t *left) PFS_CHECKED;
 
-#define PFS_OPEN UINT32_MAX /**< each place between the first and the last jobs of a part */
+/** @brief Each place between the first and the last jobs of a part. */
+#define PFS_OPEN UINT32_MAX
 
 /** @brief The limits of a call of pfs_prove_parts, and what it proved. */
 struct pfs_proof {
@@ -375,9 +376,8 @@ struct pfs_proof {
  *
  * @param[in,out] instance the instance, of at most 256 jobs and 64 machines
  * @param[in,out] order all jobs; the order to start from, then the best order found, which is no longer
- * @param[in,out] parts,parts_length rows of the given parts, then of those that are left; parts_length is
- *     bounds_length * n
- * @param[out] bounds,bounds_length a bound for each part that is left; bounds_length is at least count + n(n+1)/2
+ * @param[in,out] parts rows of the given parts, then of those that are left; parts_length is bounds_length * n
+ * @param[out] bounds a bound for each part that is left; bounds_length is at least count + n(n+1)/2
  * @param[in,out] proof the limits of the call, and what was proved
  * @return PFS_OK, or the first of PFS_NOT_PREPARED (instance), PFS_LENGTH (order_length, parts_length), PFS_JOB or
  *     PFS_REPEATED (the jobs of order from the left), PFS_SIZE (more than 256 jobs or 64 machines), PFS_ROOM
