@@ -42,8 +42,8 @@ $(foreach name,pfs pfs-plan pfs-gantt pfs-experiments pfs-web,\
     share/pfs.bash share/bash-completion/completions/$(name)$(newline))
 $(foreach name,$(PAGES),$(name) share/doc/pfs/$(name)$(newline))
 endef
-PAGES = $(sort $(wildcard *.md CITATION.cff LICENSE-* docs/*.* docs/maintain/*.* examples/* experiments/*.* experiments/figures \
-    lib/pfs.h python/README.md python/examples/*.py))
+PAGES = $(sort $(wildcard *.md CITATION.cff LICENSE-* docs/*.* docs/maintain/*.* examples/* experiments/*.* \
+    experiments/figures lib/pfs.h python/README.md python/examples/*.py))
 define LIBRARY_FILES
 lib/out/libpfs.a $(LIB)/libpfs.a
 $(LIBRARY) $(LIB)/libpfs.so.1

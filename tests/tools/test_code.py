@@ -158,7 +158,8 @@ def faults_of(path: pathlib.Path) -> list[str]:
         text = path.read_bytes().decode()
     except UnicodeDecodeError:
         return ["no UTF-8"] if path.suffix != ".png" else []
-    is_long = path.suffix in (".json", ".md") or path.name in ("crates.txt", "words.de.txt", "taillard_orders.csv") or "crates" in path.parts
+    names = ("crates.txt", "words.de.txt", "taillard_orders.csv")
+    is_long = path.suffix in (".json", ".md") or path.name in names or "crates" in path.parts
     rules = {"more than 120 columns": r".{121}" if not is_long else r"(?!)",
              "a blank or a carriage return at the end": r".*\s$",
              "a tab": r".*\t" if path.name not in ("Makefile", "rules") else r"(?!)"}

@@ -26,8 +26,8 @@ NOTE = ("Compared are settings of the same rounds or time factor, on the instanc
 
 RANKS = ("Average ranks of the settings of the same rounds or time factor, which are a group, on the instances that "
          "all have: the shortest mean makespan has rank 1, and equal ones the mean of their ranks. Critical "
-         "difference: two settings whose average ranks differ by less don't differ at the level of 5 %, by Nemenyi's test. p: "
-         "Friedman's test.")
+         "difference: two settings whose average ranks differ by less don't differ at the level of 5 %, by "
+         "Nemenyi's test. p: Friedman's test.")
 
 
 def common(runs: pd.DataFrame) -> tuple[pd.DataFrame, dict[Any, list[str]]]:
