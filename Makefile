@@ -43,7 +43,7 @@ $(foreach name,pfs pfs-plan pfs-gantt pfs-experiments pfs-web,\
 $(foreach name,$(PAGES),$(name) share/doc/pfs/$(name)$(newline))
 endef
 PAGES = $(sort $(wildcard *.md CITATION.cff LICENSE-* docs/*.* docs/maintain/*.* examples/* experiments/*.* \
-    experiments/figures lib/pfs.h python/README.md python/examples/*.py))
+    lib/pfs.h python/README.md python/examples/*.py))
 define LIBRARY_FILES
 lib/out/libpfs.a $(LIB)/libpfs.a
 $(LIBRARY) $(LIB)/libpfs.so.1
