@@ -1,7 +1,9 @@
 #!/bin/sh
 # Measures the tables of docs/SEARCH.md with the seeds 1 to 5, in some 17 hours of processor time, and what each part of
 # iterated-greedy gains. The same line continues after an interruption.
-# usage: sh experiments/figures.sh FOLDER [OPTION of GNU parallel ..], in the repository's folder, after `make lib taillard`
+#
+# usage: sh experiments/figures.sh FOLDER [OPTION of GNU parallel ..]
+#   in the repository's folder, after `make lib taillard`
 set -eu
 folder=${1:?a folder}
 shift
